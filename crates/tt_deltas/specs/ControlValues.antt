@@ -5,7 +5,7 @@ use Rattle.std.specs.Prelude.{◌≡◌, ℕ, ℤ, pos, negsuc, Bool, ◌&&◌, 
 use Rattle.std.specs.Int.{int_max, int_min}
 use Rattle.tt_core.specs.Numbers.{unsigned_at}
 use Rattle.tt_core.specs.Outcomes.{◌>>=◌}
-use Rattle.tt_tuples.specs.declared.fault.Broken.{Broken}
+use Rattle.tt_core.specs.Faults.{Fault}
 use Rattle.tt_tuples.specs.declared.source.TupleTable.TheVariants as table
 use Rattle.tt_tuples.specs.Sources.{Source, Tuple}
 use Rattle.tt_tuples.specs.Tuples.{tuples_of}
@@ -28,16 +28,21 @@ abbrev pub after_tuples : List Varied → List Tuple → List Varied
 after_tuples vs [] = vs
 after_tuples vs (t ∷ ts) = after_tuples (varied_along t.share (numbers_of t.points) t.xs [] vs) ts
 
-unfoldable pub values_by_all : List Varied → Result (List Tuple) Broken → Result (List Varied) Broken
+unfoldable pub values_by_all : List Varied → Result (List Tuple) Fault → Result (List Varied) Fault
 values_by_all vs tuples = tuples >>= λ ts. Ok (after_tuples vs ts)
 
 -- the source of the tuples
 abbrev pub source_for : Gvar → List ℕ → List ℤ → ℕ → Source
 source_for g cvar coordinates values =
-    record { table = table.Cvar; bytes = cvar; shared = shared_bytes_of g; coordinates = coordinates; points = values }
+    record {
+      store = record { table = table.Cvar; start = 0; bytes = cvar };
+      shared = shared_bytes_of g;
+      coordinates = coordinates;
+      points = values;
+    }
 
 -- without a cvar that is whole the values stay
-abbrev pub or_still : List Varied → Result (List Varied) Broken → List Varied
+abbrev pub or_still : List Varied → Result (List Varied) Fault → List Varied
 or_still vs (Ok varied) = varied
 or_still vs (Err e) = vs
 

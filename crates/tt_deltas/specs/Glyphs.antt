@@ -2,12 +2,10 @@
 -- up; deltas are inferred by the original coordinates, tuple by tuple. The points are those of a simple glyph, or a
 -- composite glyph's components, and four phantom points.
 use Rattle.std.specs.Prelude.{ℕ, ℤ, ◌+◌, List, [], ◌∷◌, length, Option, Some, None, Result, Ok, Err}
-use Rattle.tt_core.specs.declared.fault.Why.TheVariants as why
-use Rattle.tt_core.specs.Faults.{Fault, fault_at}
 use Rattle.tt_core.specs.Outcomes.{◌>>=◌}
-use Rattle.tt_tuples.specs.declared.fault.Broken.{Broken}
+use Rattle.tt_core.specs.Faults.{Fault}
 use Rattle.tt_tuples.specs.declared.source.TupleTable.TheVariants as table
-use Rattle.tt_tuples.specs.PointNumbers.{Points, all_points, listed}
+use Rattle.tt_tuples.specs.PointNumbers.{TuplePoints, all_points, listed}
 use Rattle.tt_tuples.specs.Sources.{Source, Tuple}
 use Rattle.tt_tuples.specs.Tuples.{tuples_of}
 use Rattle.tt_deltas.specs.Along.{AreNumbers, varied_along}
@@ -20,7 +18,7 @@ pub record VariedPoints : Type 0 where
   pub ys : List Varied
 
 -- the numbers of named points; none: all points
-abbrev pub numbers_of : Points → Option (List ℕ)
+abbrev pub numbers_of : TuplePoints → Option (List ℕ)
 numbers_of all_points = None
 numbers_of (listed numbers) = Some numbers
 
@@ -36,26 +34,23 @@ after_tuples ends v [] = v
 after_tuples ends v (t ∷ ts) = after_tuples ends (varied_by ends v t) ts
 
 -- the points after tuples that are read
-unfoldable pub points_by_all : List ℕ → VariedPoints → Result (List Tuple) Broken → Result VariedPoints Broken
+unfoldable pub points_by_all : List ℕ → VariedPoints → Result (List Tuple) Fault → Result VariedPoints Fault
 points_by_all ends v tuples = tuples >>= λ ts. Ok (after_tuples ends v ts)
-
--- a defect of a glyph's data is told at its place in gvar
-abbrev pub broken_fault : ℕ → Broken → Fault
-broken_fault start e = fault_at gvar_tag (start + e.at) why.GlyphVariation
-
-abbrev pub told_in_gvar : {A : Type 0} → ℕ → Result A Broken → Result A Fault
-told_in_gvar start (Ok x) = Ok x
-told_in_gvar start (Err e) = Err (broken_fault start e)
 
 -- the source of a glyph's tuples
 abbrev pub source_for : Gvar → List ℤ → ℕ → GlyphData → Source
 source_for g coordinates points d =
-    record { table = table.Gvar; bytes = d.bytes; shared = shared_bytes_of g; coordinates = coordinates; points = points }
+    record {
+      store = record { table = table.Gvar; start = d.start; bytes = d.bytes };
+      shared = shared_bytes_of g;
+      coordinates = coordinates;
+      points = points;
+    }
 
 abbrev pub varied_with : Gvar → List ℤ → List ℕ → VariedPoints → Option GlyphData → Result VariedPoints Fault
 varied_with g coordinates ends v None = Ok v
 varied_with g coordinates ends v (Some d) =
-    told_in_gvar d.start (points_by_all ends v (tuples_of (source_for g coordinates (length v.xs) d)))
+    points_by_all ends v (tuples_of (source_for g coordinates (length v.xs) d))
 
 -- the points of glyph n
 unfoldable pub varied_glyph : Gvar → ℕ → List ℤ → List ℕ → VariedPoints → Result VariedPoints Fault

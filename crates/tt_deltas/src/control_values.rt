@@ -2,8 +2,8 @@
 
 ghost use Rattle.std.specs.Prelude.{◌≡◌, ◌+◌, ◌<◌, ◌≤◌, ◌^◌, ◌*◌, length, map, vec_capacity, All, IfOk, unsigned_abs};
 ghost use Rattle.tt_core.specs.Limits.{font_limit};
-ghost use Rattle.tt_core.specs.Outcomes.{Gives, GivesUnless};
-ghost use Rattle.tt_tuples.specs.Tuples.{rest, told, tuples_of};
+ghost use Rattle.tt_core.specs.Outcomes.{FontGives, Gives};
+ghost use Rattle.tt_tuples.specs.Tuples.{rest, tuples_of};
 ghost use Rattle.tt_tuples.specs.Views.{source_of};
 ghost use Rattle.tt_tuples.specs.declared.source.TupleTable.TheVariants.{Cvar as in_cvar};
 ghost use Rattle.tt_deltas.specs.Along.{IsStill, IsWithin};
@@ -14,19 +14,19 @@ use crate::glyph::numbers_of;
 use crate::gvar::Gvar;
 use crate::varied::Varied;
 use std::alloc::{AllocError, Global};
-use tt_axes::Coordinates;
-use tt_core::u32_at;
+use tt_axes::InstanceCoordinates;
+use tt_core::{Fault, FontFault, u32_at};
 use tt_deltas_inference::AxisPoint;
-use tt_tuples::{Broken, TupleSource, TupleTable, Tuples, TuplesFault};
+use tt_tuples::{TupleSource, TupleStore, TupleTable, Tuples};
 
 /// Adds the deltas of all tuples that are left.
 fn vary_by_all(
     tuples: &mut Tuples,
     values: &mut [Varied],
     room: &mut Vec<AxisPoint>,
-) -> Result<(), Broken>
+) -> Result<(), Fault>
     requires few { tuples.old.left < 4096 }
-    requires source { (tuples.old.source.table ≡ in_cvar) × (tuples.old.source.points ≡ length values.old) }
+    requires source { (tuples.old.source.store.table ≡ in_cvar) × (tuples.old.source.points ≡ length values.old) }
     requires room { length values.old ≤ vec_capacity room.old }
     requires still { All IsStill values.old }
     ensures exact { Gives (λ u. values.new) result (values_by_all values.old (rest tuples.old)) }
@@ -46,12 +46,11 @@ fn vary_by_all(
 
 /// Adds the deltas of all tuples of cvar.
 #[tactic(auto, unfolding(crate::specs::ControlValues::values_by_all))]
-fn vary_values(alloc: Global, source: TupleSource, values: &mut [Varied]) -> Result<(), TuplesFault>
-    requires bytes { length source.bytes.now ≤ font_limit }
-    requires source { (source.table ≡ in_cvar) × (source.points ≡ length values.old) }
+fn vary_values(alloc: Global, source: TupleSource, values: &mut [Varied]) -> Result<(), FontFault>
+    requires source { (source.store.table ≡ in_cvar) × (source.points ≡ length values.old) }
     requires count { length values.old ≤ font_limit }
     requires still { All IsStill values.old }
-    ensures exact { GivesUnless told (λ u. values.new) result (values_by_all values.old (tuples_of (source_of source.entry))) }
+    ensures exact { FontGives (λ u. values.new) result (values_by_all values.old (tuples_of (source_of source.entry))) }
     ensures within { IfOk result (λ u. All (IsWithin (2 ^ 46)) values.new) }
 {
     let points = source.points;
@@ -91,7 +90,7 @@ impl<'a> Gvar<'a> {
         &self,
         alloc: Global,
         cvar: &[u8],
-        coordinates: &Coordinates,
+        coordinates: &InstanceCoordinates,
         values: &[i16],
     ) -> Result<Vec<Varied>, AllocError>
         requires table { length cvar.now ≤ font_limit }
@@ -104,16 +103,19 @@ impl<'a> Gvar<'a> {
             return Ok(varied);
         }
         let source = TupleSource {
-            table: TupleTable::Cvar,
-            bytes: cvar,
+            store: TupleStore {
+                table: TupleTable::Cvar,
+                start: 0,
+                bytes: cvar,
+            },
             shared: self.shared(),
             coordinates,
             points: values.len(),
         };
         match vary_values(alloc, source, &mut varied) {
             Ok(()) => Ok(varied),
-            Err(TuplesFault::Broken(_)) => still(alloc, values),
-            Err(TuplesFault::Memory) => Err(AllocError),
+            Err(FontFault::Font(_)) => still(alloc, values),
+            Err(FontFault::Memory) => Err(AllocError),
         }
     }
 }

@@ -2,30 +2,30 @@
 
 ghost use Rattle.std.specs.Prelude.{◌≡◌, ◌+◌, ◌<◌, ◌≤◌, ◌^◌, length, vec_capacity, All, IfErr, IfOk, ℕ, option_copied};
 ghost use Rattle.tt_core.specs.Limits.{font_limit};
-ghost use Rattle.tt_core.specs.Outcomes.{FontGives, Gives, GivesUnless, IfTold};
+ghost use Rattle.tt_core.specs.Outcomes.{FontGives, Gives};
 ghost use Rattle.tt_deltas_inference.specs.Bounds.{AreContourEnds};
-ghost use Rattle.tt_tuples.specs.Tuples.{rest, told, tuples_of};
+ghost use Rattle.tt_tuples.specs.Tuples.{rest, tuples_of};
 ghost use Rattle.tt_tuples.specs.Views.{named_points, source_of, tuple_of};
 ghost use Rattle.tt_tuples.specs.declared.source.TupleTable.TheVariants.{Gvar as in_gvar};
 ghost use Rattle.tt_deltas.specs.Along.{IsStill, IsWithin};
-ghost use Rattle.tt_deltas.specs.Glyphs.{IsFor, broken_fault, numbers_of, points_by_all, varied_by, varied_glyph};
+ghost use Rattle.tt_deltas.specs.Glyphs.{IsFor, numbers_of, points_by_all, varied_by, varied_glyph};
 
 use crate::along::{AxisTuple, vary_along};
-use crate::gvar::{GVAR, Gvar};
+use crate::gvar::Gvar;
 use crate::varied::Varied;
 use std::alloc::Global;
-use tt_axes::Coordinates;
-use tt_core::{Fault, FontFault, Why};
+use tt_axes::InstanceCoordinates;
+use tt_core::{Fault, FontFault};
 use tt_deltas_inference::AxisPoint;
-use tt_tuples::{Broken, Points, Tuple, TupleSource, TupleTable, Tuples, TuplesFault};
+use tt_tuples::{Tuple, TuplePoints, TupleSource, TupleStore, TupleTable, Tuples};
 
 /// The numbers of the points that a tuple names; none: all points.
-pub(crate) fn numbers_of<'a>(points: Points<'a>) -> Option<&'a [u16]>
+pub(crate) fn numbers_of<'a>(points: TuplePoints<'a>) -> Option<&'a [u16]>
     ensures { option_copied result ≡ numbers_of (named_points points.entry) }
 {
     match points {
-        Points::All => None,
-        Points::Listed(numbers) => Some(numbers),
+        TuplePoints::All => None,
+        TuplePoints::Listed(numbers) => Some(numbers),
     }
 }
 
@@ -72,9 +72,9 @@ fn vary_by_all(
     ys: &mut [Varied],
     ends: &[u16],
     room: &mut Vec<AxisPoint>,
-) -> Result<(), Broken>
+) -> Result<(), Fault>
     requires few { tuples.old.left < 4096 }
-    requires source { (tuples.old.source.table ≡ in_gvar) × (tuples.old.source.points ≡ length xs.old) }
+    requires source { (tuples.old.source.store.table ≡ in_gvar) × (tuples.old.source.points ≡ length xs.old) }
     requires count { length ys.old ≡ length xs.old }
     requires contours { AreContourEnds 0 ends.now (length xs.old) }
     requires room { length xs.old ≤ vec_capacity room.old }
@@ -82,7 +82,6 @@ fn vary_by_all(
     requires y { All IsStill ys.old }
     ensures exact { Gives (λ u. record { xs = xs.new; ys = ys.new }) result
         (points_by_all ends.now (record { xs = xs.old; ys = ys.old }) (rest tuples.old)) }
-    ensures within { IfErr result (λ e. e.at ≤ length tuples.old.source.bytes) }
     ensures x { All (IsWithin (2 ^ 46)) xs.new }
     ensures y { All (IsWithin (2 ^ 46)) ys.new }
 {
@@ -100,16 +99,14 @@ fn vary_points(
     xs: &mut [Varied],
     ys: &mut [Varied],
     ends: &[u16],
-) -> Result<(), TuplesFault>
-    requires bytes { length source.bytes.now ≤ font_limit }
-    requires source { (source.table ≡ in_gvar) × (source.points ≡ length xs.old) }
+) -> Result<(), FontFault>
+    requires source { (source.store.table ≡ in_gvar) × (source.points ≡ length xs.old) }
     requires count { (length ys.old ≡ length xs.old) × (length xs.old ≤ font_limit) }
     requires contours { AreContourEnds 0 ends.now (length xs.old) }
     requires x { All IsStill xs.old }
     requires y { All IsStill ys.old }
-    ensures exact { GivesUnless told (λ u. record { xs = xs.new; ys = ys.new }) result
+    ensures exact { FontGives (λ u. record { xs = xs.new; ys = ys.new }) result
         (points_by_all ends.now (record { xs = xs.old; ys = ys.old }) (tuples_of (source_of source.entry))) }
-    ensures within { IfTold told result (λ e. e.at ≤ length source.entry.bytes.now) }
     ensures x { IfOk result (λ u. All (IsWithin (2 ^ 46)) xs.new) }
     ensures y { IfOk result (λ u. All (IsWithin (2 ^ 46)) ys.new) }
 {
@@ -118,14 +115,6 @@ fn vary_points(
     let mut room = Vec::with_capacity(alloc, points)?;
     vary_by_all(&mut tuples, xs, ys, ends, &mut room)?;
     Ok(())
-}
-
-/// The fault of gvar for a glyph whose data are broken.
-fn broken_fault(start: usize, broken: Broken) -> Fault
-    requires { start + broken.at ≤ font_limit }
-    ensures { result ≡ broken_fault start broken }
-{
-    Fault::new(GVAR, (start + broken.at) as u32, Why::GlyphVariation)
 }
 
 impl<'a> Gvar<'a> {
@@ -138,7 +127,7 @@ impl<'a> Gvar<'a> {
         &self,
         alloc: Global,
         g: u16,
-        coordinates: &Coordinates,
+        coordinates: &InstanceCoordinates,
         xs: &mut [Varied],
         ys: &mut [Varied],
         ends: &[u16],
@@ -156,18 +145,15 @@ impl<'a> Gvar<'a> {
             return Ok(());
         };
         let source = TupleSource {
-            table: TupleTable::Gvar,
-            bytes: data.bytes,
+            store: TupleStore {
+                table: TupleTable::Gvar,
+                start: data.start,
+                bytes: data.bytes,
+            },
             shared: self.shared(),
             coordinates,
             points: xs.len(),
         };
-        match vary_points(alloc, source, xs, ys, ends) {
-            Ok(()) => Ok(()),
-            Err(TuplesFault::Broken(broken)) => Err(FontFault::Font(broken_fault(
-                data.start, broken,
-            ))),
-            Err(TuplesFault::Memory) => Err(FontFault::Memory),
-        }
+        vary_points(alloc, source, xs, ys, ends)
     }
 }

@@ -11,7 +11,7 @@ ghost use Rattle.tt_deltas.specs.Views.{data_view};
 use std::marker::Model;
 use tt_core::{Dir, Fault, Why, u16_at, u32_at};
 
-pub(crate) const GVAR: [u8; 4] = *b"gvar";
+const GVAR: [u8; 4] = *b"gvar";
 
 const HEADER_SIZE: usize = 20;
 

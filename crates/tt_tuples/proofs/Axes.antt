@@ -1,6 +1,6 @@
 -- The share of a tuple, axis by axis. Where nothing is left, the other axes have no effect.
 use Rattle.std.proofs.Common.{◌≡◌, ℕ, zero, suc, ◌+◌, ◌-◌, ◌<◌, ◌≤◌, ℤ, pos, List, refl, arith, add-zero, add-one}
-use Rattle.tt_axes.specs.declared.region.Ends.{Ends}
+use Rattle.tt_axes.specs.declared.region.RegionEnds.{RegionEnds}
 use Rattle.tt_axes.specs.Coordinates.{coordinate_at}
 use Rattle.tt_axes.specs.Shares.{AllAtPeak, SharesFall, share_of_tuple_axis, whole_share}
 use Rattle.tt_tuples.specs.Regions.{Region, ends_on, fixed_at, share_after}
@@ -38,7 +38,7 @@ part-holds falls cs r (suc i) =
     omega arith
 
 -- any ends
-no_ends : Ends
+no_ends : RegionEnds
 no_ends = record { start = pos 0; end = pos 0 }
 
 pub all-holds : AllAtPeak → (cs : List ℤ) (r : Region) (i n : ℕ) → i ≤ n

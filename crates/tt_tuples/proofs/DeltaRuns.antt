@@ -1,12 +1,12 @@
 -- Packed deltas, one at a time.
 use Rattle.std.proofs.Common.{◌≡◌, ℕ, zero, suc, ◌+◌, ◌-◌, ◌<◌, ◌≤◌, ℤ, List, [], ◌∷◌, ◌++◌, Ok, Err, refl, arith, append-nil}
-use Rattle.tt_tuples.specs.declared.fault.Broken.{Broken}
-use Rattle.tt_tuples.specs.Bytes.{after}
-use Rattle.tt_tuples.specs.Deltas.{Delta, DeltaRun, next_delta, deltas_from}
+use Rattle.tt_core.specs.Faults.{Fault}
+use Rattle.tt_tuples.specs.Bytes.{TupleStore, after}
+use Rattle.tt_tuples.specs.Deltas.{PackedDelta, DeltaRun, next_delta, deltas_from}
 use Rattle.tt_tuples.proofs.Chains.{after-after}
 
 -- a delta, then those after it
-pub turn : (b : List ℕ) (before : List ℤ) (n i : ℕ) (r : DeltaRun) (d : Delta) → i < n
+pub turn : (b : TupleStore) (before : List ℤ) (n i : ℕ) (r : DeltaRun) (d : PackedDelta) → i < n
     → next_delta b r (n - i) ≡ Ok d
     → after before (deltas_from b (n - i) r) ≡ after (before ++ d.delta ∷ []) (deltas_from b (n - (i + 1)) d.run)
 unfolding deltas_from
@@ -15,14 +15,14 @@ turn b before n i r d below was =
     let is = rw more at was in
     rw (more, is, after-after) refl
 
-pub breaks : (b : List ℕ) (before : List ℤ) (left : ℕ) (r : DeltaRun) (e : Broken) → 0 < left
+pub breaks : (b : TupleStore) (before : List ℤ) (left : ℕ) (r : DeltaRun) (e : Fault) → 0 < left
     → next_delta b r left ≡ Err e → after before (deltas_from b left r) ≡ Err e
 unfolding deltas_from
 breaks b before zero r e some was = absurd (omega arith)
 breaks b before (suc left) r e some was = rw was refl
 
 -- no delta remains
-pub done : (b : List ℕ) (before : List ℤ) (n i : ℕ) (r : DeltaRun) → n ≤ i
+pub done : (b : TupleStore) (before : List ℤ) (n i : ℕ) (r : DeltaRun) → n ≤ i
     → after before (deltas_from b (n - i) r) ≡ Ok (record { value = before; next = r.at })
 unfolding deltas_from
 done b before n i r all =

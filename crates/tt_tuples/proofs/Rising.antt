@@ -4,8 +4,8 @@ use Rattle.std.proofs.lemmas.List.Elements.{All-cons, All-nil}
 use Rattle.std.proofs.lemmas.Bool.Decides.{nat_tests}
 use Rattle.tt_core.specs.Chains.{came-through, passed-else}
 use Rattle.tt_core.specs.Outcomes.{Gives}
-use Rattle.tt_tuples.specs.declared.fault.Broken.{Broken}
-use Rattle.tt_tuples.specs.Bytes.{Read}
+use Rattle.tt_core.specs.Faults.{Fault}
+use Rattle.tt_tuples.specs.Bytes.{TupleStore, Read}
 use Rattle.tt_tuples.specs.PointNumbers.{Number, NumberRun, difference_in, is_above, next_number, number_in, number_run, number_within, numbers_at, numbers_from, summed}
 use Rattle.tt_tuples.specs.Sources.{IsList, Rises}
 use Rattle.tt_tuples.specs.Views.{read_into}
@@ -35,15 +35,15 @@ tested-above None n test = tt
 tested-above (Some m) n test = below m n test
 
 -- what a number's test says
-tested : (r : NumberRun) (before : Option ℕ) (number n : ℕ) → number_within r before number ≡ Ok n
+tested : (b : TupleStore) (r : NumberRun) (before : Option ℕ) (number n : ℕ) → number_within b r before number ≡ Ok n
     → IsAbove before n × (n < 65536)
-tested r before number n was =
+tested b r before number n was =
     let p = passed-else (is_above before number && nat_lt number 65536) _ number n was in
     let tests = both (is_above before number) (nat_lt number 65536) p.0 in
     rw (← p.1) (tested-above before number tests.0, below number 65536 tests.1)
 
 -- a number that is read is above the one before it
-next-above : (b : List ℕ) (r : NumberRun) (before : Option ℕ) (n : Number) → next_number b r before ≡ Ok n
+next-above : (b : TupleStore) (r : NumberRun) (before : Option ℕ) (n : Number) → next_number b r before ≡ Ok n
     → IsAbove before n.number × (n.number < 65536)
 unfolding next_number
 next-above b r before n was =
@@ -51,7 +51,7 @@ next-above b r before n was =
     let number = came-through (number_in b run.value before) _ n run.rest in
     let by = came-through (difference_in b run.value) _ number.value number.first in
     let is : number.value ≡ n.number = cc (number.rest) in
-    rw (← is) (tested run.value before (summed before by.value) number.value by.rest)
+    rw (← is) (tested b run.value before (summed before by.value) number.value by.rest)
 
 -- above a number that is itself above another
 above-more : (before : Option ℕ) (n m : ℕ) → IsAbove before n → n < m → IsAbove before m
@@ -85,7 +85,7 @@ climb-none before = record {
 }
 
 -- the numbers that are read rise, and are as many as asked for
-climb : (b : List ℕ) (count : ℕ) (r : NumberRun) (before : Option ℕ) (read : Read (List ℕ))
+climb : (b : TupleStore) (count : ℕ) (r : NumberRun) (before : Option ℕ) (read : Read (List ℕ))
     → numbers_from b count r before ≡ Ok read → Climb before read.value × (length read.value ≡ count)
 unfolding numbers_from
 climb b zero r before read was =
@@ -100,13 +100,13 @@ climb b (suc count) r before read was =
     let climbs = climb b count n.run (Some n.number) others.read others.was in
     rw is (climb-cons before n.number others.read.value above.0 above.1 climbs.0, omega (arith, climbs.1))
 
-pub numbers-rise : (b : List ℕ) (at count points : ℕ) (read : Read (List ℕ)) → numbers_at b at count ≡ Ok read
+pub numbers-rise : (b : TupleStore) (at count points : ℕ) (read : Read (List ℕ)) → numbers_at b at count ≡ Ok read
     → count ≤ points → IsList points read.value
 numbers-rise b at count points read was few =
     let climbs = climb b count _ None read was in
     record { few = omega (arith, climbs.1); rises = climbs.0.rises; words = climbs.0.words }
 
-pub read-rises : (b items : List ℕ) (at count points : ℕ) (result : Result ℕ Broken)
+pub read-rises : (b : TupleStore) (items : List ℕ) (at count points : ℕ) (result : Result ℕ Fault)
     → Gives (read_into items) result (numbers_at b at count) → count ≤ points → OnOk result (IsList points items)
 read-rises b items at count points (Ok next) gives few = numbers-rise b at count points (read_into items next) gives few
 read-rises b items at count points (Err e) gives few = tt

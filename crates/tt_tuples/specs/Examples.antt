@@ -1,28 +1,38 @@
 -- Worked values of whole tuples. A glyph has four points and four phantom points; cvar has three control values. The
 -- font has one axis, and the instance is at its end, where the only shared tuple has its peak.
-use Rattle.std.specs.Prelude.{◌≡◌, refl, ℕ, ℤ, pos, negsuc, List, [], ◌∷◌, map, Result, Ok, Err}
+use Rattle.std.specs.Prelude.{◌≡◌, refl, ℕ, ℤ, pos, negsuc, List, [], ◌∷◌, map, codes, Result, Ok, Err}
+use Rattle.tt_core.specs.declared.fault.Why.TheVariants as why
+use Rattle.tt_core.specs.Faults.{Fault, fault_at}
 use Rattle.tt_axes.specs.Shares.{share_of_tuple_axis}
 use Rattle.tt_tuples.specs.declared.source.TupleTable.TheVariants as table
-use Rattle.tt_tuples.specs.Bytes.{broken, byte_in, word_in, signed_in, slice_in}
+use Rattle.tt_tuples.specs.Bytes.{byte_in, glyph_at_100, gvar_fault, signed_in, slice_in, word_in}
 use Rattle.tt_tuples.specs.Deltas.{deltas_from, next_delta, delta_run_at}
 use Rattle.tt_tuples.specs.Headers.{header_at, tuple_count, tuple_header_at, peak_at, sides_at}
-use Rattle.tt_tuples.specs.PointNumbers.{Points, all_points, listed, points_at, listed_at, count_at, numbers_from, next_number, number_run_at}
+use Rattle.tt_tuples.specs.PointNumbers.{TuplePoints, all_points, listed, points_at, listed_at, count_at, numbers_from, next_number, number_run_at}
 use Rattle.tt_tuples.specs.Regions.{share_after}
 use Rattle.tt_tuples.specs.Sources.{Source, Tuple}
 use Rattle.tt_tuples.specs.Tuples.{tuples_of, tuples_from, tuple_at, shared_points_of}
 
 abbrev glyph_at : ℤ → List ℕ → Source
 glyph_at c bytes =
-    record { table = table.Gvar; bytes = bytes; shared = 0x40 ∷ 0 ∷ []; coordinates = c ∷ []; points = 8 }
+    record { store = glyph_at_100 bytes; shared = 0x40 ∷ 0 ∷ []; coordinates = c ∷ []; points = 8 }
 
 abbrev glyph : List ℕ → Source
 glyph bytes = glyph_at (pos 65536) bytes
 
 abbrev cvar : List ℕ → Source
 cvar bytes =
-    record { table = table.Cvar; bytes = bytes; shared = 0x40 ∷ 0 ∷ []; coordinates = pos 65536 ∷ []; points = 3 }
+    record {
+      store = record { table = table.Cvar; start = 0; bytes = bytes };
+      shared = 0x40 ∷ 0 ∷ [];
+      coordinates = pos 65536 ∷ [];
+      points = 3;
+    }
 
-abbrev tuple : ℕ → Points → List ℤ → List ℤ → Tuple
+abbrev cvar_fault : ℕ → Fault
+cvar_fault offset = fault_at (codes "cvar") offset why.GlyphVariation
+
+abbrev tuple : ℕ → TuplePoints → List ℤ → List ℤ → Tuple
 tuple share points xs ys = record { share = share; points = points; xs = xs; ys = ys }
 
 -- deltas of all eight points: those of the right side are the same
@@ -101,7 +111,7 @@ control_values : map (λ b. tuples_of (cvar b))
     ≡ Ok (tuple 65536 all_points (negsuc 63 ∷ pos 50 ∷ pos 0 ∷ []) [] ∷ [])
     ∷ Ok (tuple 65536 (listed (1 ∷ [])) (pos 64 ∷ []) [] ∷ [])
     ∷ Ok (tuple 65536 all_points (negsuc 63 ∷ pos 50 ∷ pos 0 ∷ []) [] ∷ [])
-    ∷ Err (broken 10) ∷ []
+    ∷ Err (cvar_fault 10) ∷ []
 unfolding tuples_of tuples_from tuple_at tuple_header_at header_at shared_points_of peak_at sides_at points_at
     listed_at count_at numbers_from next_number number_run_at deltas_from next_delta delta_run_at byte_in word_in
     signed_in slice_in share_after share_of_tuple_axis
@@ -119,13 +129,13 @@ defects : map (λ b. tuples_of (glyph b))
     ∷ (0 ∷ 1 ∷ 0 ∷ 0x0A ∷ 0 ∷ 3 ∷ 0xA0 ∷ 0 ∷ 0x40 ∷ 0 ∷ 0 ∷ 0x88 ∷ 0x87 ∷ 0 ∷ [])
     ∷ (0 ∷ 1 ∷ 0 ∷ 0x0A ∷ 0 ∷ 7 ∷ 0xA0 ∷ 0 ∷ 0x40 ∷ 0 ∷ 0 ∷ 0x81 ∷ 1 ∷ 0x40 ∷ 0x40 ∷ 0x83 ∷ [])
     ∷ (0x70 ∷ 0 ∷ 0 ∷ 4 ∷ []) ∷ [])
-    ≡ Err (broken 1)
-    ∷ Err (broken 2)
-    ∷ Err (broken 6)
-    ∷ Err (broken 13)
-    ∷ Err (broken 10)
-    ∷ Err (broken 11)
-    ∷ Err (broken 16)
+    ≡ Err (gvar_fault 101)
+    ∷ Err (gvar_fault 102)
+    ∷ Err (gvar_fault 106)
+    ∷ Err (gvar_fault 113)
+    ∷ Err (gvar_fault 110)
+    ∷ Err (gvar_fault 111)
+    ∷ Err (gvar_fault 116)
     ∷ Ok [] ∷ []
 unfolding tuples_of tuples_from tuple_at tuple_header_at header_at shared_points_of peak_at sides_at points_at
     listed_at count_at numbers_from next_number number_run_at deltas_from next_delta delta_run_at byte_in word_in

@@ -2,12 +2,13 @@
 -- In cvar the header follows four bytes, and its offset counts from the table's first byte.
 use Rattle.std.specs.Prelude.{ℕ, ◌+◌, ◌*◌, ◌%◌, ◌==◌, Bool, nat_lt, nat_le, if◌then◌else◌, Option, Some, None, List, length, slice_range, Result, Ok, Err}
 use Rattle.std.specs.Int.RustNames.{bit_and}
+use Rattle.tt_core.specs.Numbers.{number_at}
 use Rattle.tt_core.specs.Outcomes.{◌>>=◌}
-use Rattle.tt_tuples.specs.declared.fault.Broken.{Broken}
+use Rattle.tt_core.specs.Faults.{Fault}
 use Rattle.tt_tuples.specs.declared.source.TupleTable.{TupleTable}
 use Rattle.tt_tuples.specs.declared.source.TupleTable.TheVariants as table
-use Rattle.tt_tuples.specs.Bytes.{broken, word_in, slice_in, Read}
-use Rattle.tt_tuples.specs.Regions.{Sides, share_of}
+use Rattle.tt_tuples.specs.Bytes.{TupleStore, Read, broken, slice_in, word_in}
+use Rattle.tt_tuples.specs.Regions.{RegionSides, share_of}
 use Rattle.tt_tuples.specs.Sources.{Source}
 
 -- where the header begins
@@ -37,49 +38,53 @@ abbrev pub has : ℕ → ℕ → Bool
 has word bit = bit_and word bit == bit
 
 -- how many tuples there are, whether they share point numbers, and where these or the tuples' data begin
-pub record Header : Type 0 where
+pub record TupleStoreHeader : Type 0 where
   pub tuples : ℕ
   pub shares_points : Bool
   pub data_at : ℕ
 
 -- data past the end of the bytes are refused at their offset
-unfoldable pub header_at : List ℕ → ℕ → Result Header Broken
-header_at b at = do
-  count ← word_in b at
-  offset ← word_in b (at + 2)
-  if nat_lt (length b) offset then Err (broken (at + 2))
+unfoldable pub header_at : TupleStore → ℕ → Result TupleStoreHeader Fault
+header_at store at = do
+  count ← word_in store at
+  offset ← word_in store (at + 2)
+  if nat_lt (length store.bytes) offset then Err (broken store (at + 2))
       else Ok (record { tuples = tuples_told count; shares_points = has count shared_point_numbers; data_at = offset })
 
 -- the count of tuples, 0 where the count is missing
 unfoldable pub tuple_count : TupleTable → List ℕ → ℕ
-tuple_count t b = counted (word_in b (header_place t))
+tuple_count t b = counted (number_at b (header_place t) 2)
   where
-    counted : Result ℕ Broken → ℕ
-    counted (Ok count) = tuples_told count
-    counted (Err e) = 0
+    counted : Option ℕ → ℕ
+    counted (Some count) = tuples_told count
+    counted None = 0
 
 -- a tuple of the shared ones, refused at the tuple's index if it is not there
-abbrev pub shared_peak : List ℕ → ℕ → ℕ → ℕ → Result (Read (List ℕ)) Broken
-shared_peak shared axes index at =
-    if nat_le (2 * axes * (index % 4096) + 2 * axes) (length shared)
-    then Ok (record { value = slice_range shared (2 * axes * (index % 4096)) (2 * axes * (index % 4096) + 2 * axes); next = at + 4 })
-    else Err (broken (at + 2))
+abbrev pub shared_peak : Source → ℕ → ℕ → Result (Read (List ℕ)) Fault
+shared_peak s at index =
+    if nat_le (2 * length s.coordinates * (index % 4096) + 2 * length s.coordinates) (length s.shared)
+    then Ok (record {
+      value = slice_range s.shared (2 * length s.coordinates * (index % 4096))
+          (2 * length s.coordinates * (index % 4096) + 2 * length s.coordinates);
+      next = at + 4;
+    })
+    else Err (broken s.store (at + 2))
 
 -- bytes, and the place after them
-abbrev pub taken : List ℕ → ℕ → ℕ → Result (Read (List ℕ)) Broken
-taken b at n = slice_in b at n >>= λ value. Ok (record { value = value; next = at + n })
+abbrev pub taken : TupleStore → ℕ → ℕ → Result (Read (List ℕ)) Fault
+taken store at n = slice_in store at n >>= λ value. Ok (record { value = value; next = at + n })
 
 -- the peak of the tuple that begins at a place: its own, or one of the shared ones
-unfoldable pub peak_at : Source → ℕ → ℕ → Result (Read (List ℕ)) Broken
+unfoldable pub peak_at : Source → ℕ → ℕ → Result (Read (List ℕ)) Fault
 peak_at s at index =
-    if has index embedded_peak_tuple then taken s.bytes (at + 4) (2 * length s.coordinates)
-    else shared_peak s.shared (length s.coordinates) index at
+    if has index embedded_peak_tuple then taken s.store (at + 4) (2 * length s.coordinates)
+    else shared_peak s at index
 
 -- the ends at a place, where the tuple has its own
-unfoldable pub sides_at : Source → ℕ → ℕ → Result (Read (Option Sides)) Broken
+unfoldable pub sides_at : Source → ℕ → ℕ → Result (Read (Option RegionSides)) Fault
 sides_at s at index =
     if has index intermediate_region
-    then (taken s.bytes at (2 * length s.coordinates) >>= λ start. taken s.bytes start.next (2 * length s.coordinates)
+    then (taken s.store at (2 * length s.coordinates) >>= λ start. taken s.store start.next (2 * length s.coordinates)
     >>= λ end. Ok (record { value = Some (record { start = start.value; end = end.value }); next = end.next }))
     else Ok (record { value = None; next = at })
 
@@ -91,10 +96,10 @@ pub record TupleHeader : Type 0 where
   pub own_points : Bool
   pub next : ℕ
 
-unfoldable pub tuple_header_at : Source → ℕ → Result TupleHeader Broken
+unfoldable pub tuple_header_at : Source → ℕ → Result TupleHeader Fault
 tuple_header_at s at = do
-  size ← word_in s.bytes at
-  index ← word_in s.bytes (at + 2)
+  size ← word_in s.store at
+  index ← word_in s.store (at + 2)
   peak ← peak_at s at index
   sides ← sides_at s peak.next index
   Ok (record {

@@ -25,4 +25,4 @@ NothingHolds = (coordinates : List ℤ) (r : Region) (axes : ℕ) → axes ≤ l
 -- the tuples that are read are whole, and no more than the header's count
 abbrev pub TuplesAreWhole : Type 0
 TuplesAreWhole = (s : Source) (ts : List Tuple) → tuples_of s ≡ Ok ts
-    → All (IsTuple s) ts × (length ts ≤ tuple_count s.table s.bytes)
+    → All (IsTuple s) ts × (length ts ≤ tuple_count s.store.table s.store.bytes)

@@ -3,7 +3,7 @@
 use Rattle.std.specs.Prelude.{◌≡◌, refl, ℕ, zero, suc, ◌*◌, ℤ, pos, negsuc, ◌*ℤ◌, Option, Some, None, List, [], ◌∷◌, length}
 use Rattle.std.specs.Option.{unwrap_or}
 use Rattle.tt_core.specs.Numbers.{signed_at}
-use Rattle.tt_axes.specs.declared.region.Ends.{Ends}
+use Rattle.tt_axes.specs.declared.region.RegionEnds.{RegionEnds}
 use Rattle.tt_axes.specs.Coordinates.{coordinate_at}
 use Rattle.tt_axes.specs.Shares.{share_of_tuple_axis, whole_share}
 
@@ -12,17 +12,17 @@ abbrev pub fixed_at : List ℕ → ℕ → ℤ
 fixed_at b i = unwrap_or (signed_at b (2 * i)) (pos 0) *ℤ pos 4
 
 -- the bytes of a region's ends, a 2.14 for each axis
-pub record Sides : Type 0 where
+pub record RegionSides : Type 0 where
   pub start : List ℕ
   pub end : List ℕ
 
 -- the bytes of a tuple's peak, and of its ends where it has its own
 pub record Region : Type 0 where
   pub peak : List ℕ
-  pub sides : Option Sides
+  pub sides : Option RegionSides
 
 -- the ends on axis i
-abbrev pub ends_on : Option Sides → ℕ → Option Ends
+abbrev pub ends_on : Option RegionSides → ℕ → Option RegionEnds
 ends_on None i = None
 ends_on (Some s) i = Some (record { start = fixed_at s.start i; end = fixed_at s.end i })
 

@@ -2,13 +2,13 @@
 use Rattle.std.specs.Prelude.{◌≡◌, ℕ, ◌<◌, ◌≤◌, ℤ, List, length, slice_index, All}
 use Rattle.tt_tuples.specs.declared.source.TupleTable.{TupleTable}
 use Rattle.tt_tuples.specs.declared.source.TupleTable.TheVariants as table
-use Rattle.tt_tuples.specs.PointNumbers.{Points, all_points, listed}
+use Rattle.tt_tuples.specs.Bytes.{TupleStore}
+use Rattle.tt_tuples.specs.PointNumbers.{TuplePoints, all_points, listed}
 
--- the bytes of a glyph in gvar, or of cvar; gvar's shared tuples; the coordinates of the instance; how many points there
+-- the data of a glyph in gvar, or all of cvar; gvar's shared tuples; the coordinates of the instance; how many points there
 -- are, with the phantom ones, or control values
 pub record Source : Type 0 where
-  pub table : TupleTable
-  pub bytes : List ℕ
+  pub store : TupleStore
   pub shared : List ℕ
   pub coordinates : List ℤ
   pub points : ℕ
@@ -16,12 +16,12 @@ pub record Source : Type 0 where
 -- a tuple that holds: how much of it, in 1/65536, its points, and their deltas along x and y, or those of control values
 pub record Tuple : Type 0 where
   pub share : ℕ
-  pub points : Points
+  pub points : TuplePoints
   pub xs : List ℤ
   pub ys : List ℤ
 
 -- how many deltas a list has
-abbrev pub delta_count : Points → ℕ → ℕ
+abbrev pub delta_count : TuplePoints → ℕ → ℕ
 delta_count all_points points = points
 delta_count (listed numbers) points = length numbers
 
@@ -40,7 +40,7 @@ pub record IsList (points : ℕ) (ns : List ℕ) : Type 0 where
   pub rises : Rises ns
   pub words : All (λ n. n < 65536) ns
 
-abbrev pub AreNumbers : ℕ → Points → Type 0
+abbrev pub AreNumbers : ℕ → TuplePoints → Type 0
 AreNumbers points all_points = Unit {0}
 AreNumbers points (listed ns) = IsList points ns
 
@@ -50,4 +50,4 @@ pub record IsTuple (s : Source) (t : Tuple) : Type 0 where
   pub most : t.share ≤ 65536
   pub numbers : AreNumbers s.points t.points
   pub xs : length t.xs ≡ delta_count t.points s.points
-  pub ys : length t.ys ≡ second_count s.table (delta_count t.points s.points)
+  pub ys : length t.ys ≡ second_count s.store.table (delta_count t.points s.points)

@@ -5,10 +5,10 @@ ghost use Rattle.tt_core.specs.Limits.{font_limit};
 ghost use Rattle.tt_core.specs.Outcomes.{Gives};
 ghost use Rattle.tt_tuples.specs.Bytes.{signed8};
 ghost use Rattle.tt_tuples.specs.Deltas.{size_in, delta_run_at, delta_run, sized_delta, bytes_of, delta_passed, next_delta, deltas_at};
-ghost use Rattle.tt_tuples.specs.Views.{delta_run_of, delta_of, read_into};
+ghost use Rattle.tt_tuples.specs.Views.{store_of, delta_of, delta_run_of, read_into};
 
-use crate::bytes::{byte_at, signed_at};
-use crate::fault::Broken;
+use crate::tuple_store::TupleStore;
+use tt_core::Fault;
 
 /// A byte read as a signed number.
 #[inline(always)]
@@ -59,17 +59,15 @@ impl DeltaSize {
 
     /// The delta at a place.
     #[inline(always)]
-    fn delta(self, bytes: &[u8], at: usize) -> Result<i16, Broken>
+    fn delta(self, store: &TupleStore, at: usize) -> Result<i16, Fault>
         requires place { at < 2 ^ 32 }
-        requires size { length bytes.now ≤ font_limit }
-        ensures exact { Gives (λ d. d) result (sized_delta self bytes.now at) }
+        ensures exact { Gives (λ d. d) result (sized_delta self (store_of store.now) at) }
         ensures room { IfOk result (λ d. at + bytes_of self < 2 ^ 32) }
-        ensures within { IfErr result (λ e. e.at ≤ length bytes.now) }
     {
         match self {
             DeltaSize::Zeros => Ok(0),
-            DeltaSize::Bytes => Ok(signed(byte_at(bytes, at)?)),
-            DeltaSize::Words => signed_at(bytes, at),
+            DeltaSize::Bytes => Ok(signed(store.byte(at)?)),
+            DeltaSize::Words => store.signed(at),
         }
     }
 }
@@ -86,7 +84,7 @@ struct DeltaRun {
 
 /// A delta, and the run after it.
 #[derive(Clone, Copy)]
-struct Delta {
+struct PackedDelta {
     delta: i16,
     run: DeltaRun,
 }
@@ -94,17 +92,15 @@ struct Delta {
 impl DeltaRun {
     /// The run that begins at a place, where `count` deltas are still to be read.
     #[tactic(auto, unfolding(crate::specs::Deltas::delta_run_at))]
-    fn begin(bytes: &[u8], at: usize, count: usize) -> Result<DeltaRun, Broken>
-        requires { length bytes.now ≤ font_limit }
-        ensures exact { Gives delta_run_of result (delta_run_at bytes.now at count) }
+    fn begin(store: &TupleStore, at: usize, count: usize) -> Result<DeltaRun, Fault>
+        ensures exact { Gives delta_run_of result (delta_run_at (store_of store.now) at count) }
         ensures some { IfOk result (λ r. 0 < r.left) }
         ensures room { IfOk result (λ r. r.at < 2 ^ 32) }
-        ensures within { IfErr result (λ e. e.at ≤ length bytes.now) }
     {
-        let control = byte_at(bytes, at)?;
+        let control = store.byte(at)?;
         let left = usize::from(control % 64) + 1;
         if left > count {
-            return Err(Broken { at });
+            return Err(store.broken(at));
         }
         Ok(DeltaRun {
             at: at + 1,
@@ -115,16 +111,14 @@ impl DeltaRun {
 
     /// This run, or the one after it if it has ended.
     #[inline(always)]
-    fn going_on(self, bytes: &[u8], count: usize) -> Result<DeltaRun, Broken>
+    fn going_on(self, store: &TupleStore, count: usize) -> Result<DeltaRun, Fault>
         requires place { self.at < 2 ^ 32 }
-        requires size { length bytes.now ≤ font_limit }
-        ensures exact { Gives delta_run_of result (delta_run bytes.now (delta_run_of self) count) }
+        ensures exact { Gives delta_run_of result (delta_run (store_of store.now) (delta_run_of self) count) }
         ensures some { IfOk result (λ r. 0 < r.left) }
         ensures room { IfOk result (λ r. r.at < 2 ^ 32) }
-        ensures within { IfErr result (λ e. e.at ≤ length bytes.now) }
     {
         if self.left == 0 {
-            DeltaRun::begin(bytes, self.at, count)
+            DeltaRun::begin(store, self.at, count)
         } else {
             Ok(self)
         }
@@ -133,39 +127,35 @@ impl DeltaRun {
     /// The next delta, where `count` deltas are still to be read.
     #[inline(always)]
     #[tactic(auto, unfolding(crate::specs::Deltas::next_delta))]
-    fn next(self, bytes: &[u8], count: usize) -> Result<Delta, Broken>
+    fn next(self, store: &TupleStore, count: usize) -> Result<PackedDelta, Fault>
         requires place { self.at < 2 ^ 32 }
-        requires size { length bytes.now ≤ font_limit }
-        ensures exact { Gives delta_of result (next_delta bytes.now (delta_run_of self) count) }
+        ensures exact { Gives delta_of result (next_delta (store_of store.now) (delta_run_of self) count) }
         ensures room { IfOk result (λ d. d.run.at < 2 ^ 32) }
-        ensures within { IfErr result (λ e. e.at ≤ length bytes.now) }
     {
-        let run = self.going_on(bytes, count)?;
-        let delta = run.size.delta(bytes, run.at)?;
+        let run = self.going_on(store, count)?;
+        let delta = run.size.delta(store, run.at)?;
         let run = DeltaRun {
             at: run.at + run.size.bytes(),
             left: run.left - 1,
             size: run.size,
         };
-        Ok(Delta { delta, run })
+        Ok(PackedDelta { delta, run })
     }
 }
 
 /// Reads the `count` deltas from a place into a list. Returns the place after them.
 #[tactic(auto, using(crate::proofs::DeltaRuns::turn, crate::proofs::DeltaRuns::breaks, crate::proofs::DeltaRuns::done))]
 pub(crate) fn read_deltas(
-    bytes: &[u8],
+    store: &TupleStore,
     at: usize,
     count: usize,
     deltas: &mut Vec<i16>,
-) -> Result<usize, Broken>
+) -> Result<usize, Fault>
     requires place { at < 2 ^ 32 }
-    requires size { length bytes.now ≤ font_limit }
     requires room { count ≤ vec_capacity deltas.old }
-    ensures exact { Gives (read_into deltas.new.items) result (deltas_at bytes.now at count) }
+    ensures exact { Gives (read_into deltas.new.items) result (deltas_at (store_of store.now) at count) }
     ensures count { OnOk result (vec_len deltas.new ≡ count) }
     ensures next { IfOk result (λ next. next < 2 ^ 32) }
-    ensures within { IfErr result (λ e. e.at ≤ length bytes.now) }
     ensures capacity { vec_capacity deltas.new ≡ vec_capacity deltas.old }
 {
     deltas.clear();
@@ -175,7 +165,7 @@ pub(crate) fn read_deltas(
         size: DeltaSize::Zeros,
     };
     for i in 0..count {
-        let delta = run.next(bytes, count - i)?;
+        let delta = run.next(store, count - i)?;
         deltas.push_reserved(delta.delta);
         run = delta.run;
     }

@@ -4,13 +4,13 @@ ghost use Rattle.std.specs.Prelude.{◌≡◌, ◌+◌, ◌*◌, ◌<◌, ◌≤
 ghost use Rattle.tt_core.specs.Limits.{font_limit};
 ghost use Rattle.tt_core.specs.Outcomes.{Gives};
 ghost use Rattle.tt_tuples.specs.Headers.{has, header_at, header_place, peak_at, shared_peak, sides_at, tuple_count, tuple_header_at};
-ghost use Rattle.tt_tuples.specs.Views.{header_of, peak_of, sides_read, source_of, tuple_header_of};
+ghost use Rattle.tt_tuples.specs.Views.{store_of, header_of, peak_of, sides_read, source_of, tuple_header_of};
 
-use crate::bytes::{slice_at, word_at};
-use crate::fault::Broken;
-use crate::region::{Region, Sides};
+use crate::region::{Region, RegionSides};
 use crate::source::{TupleSource, TupleTable};
+use crate::tuple_store::TupleStore;
 use tt_axes::Share;
+use tt_core::{Fault, u16_at};
 
 const TUPLES: u16 = 4096;
 
@@ -44,7 +44,7 @@ impl TupleTable {
 
 /// How many tuples there are, whether they share point numbers, and where these or the tuples' data begin.
 #[derive(Clone, Copy)]
-pub(crate) struct Header {
+pub(crate) struct TupleStoreHeader {
     pub(crate) tuples: usize,
     pub(crate) shares_points: bool,
     pub(crate) data_at: usize,
@@ -52,20 +52,19 @@ pub(crate) struct Header {
 
 /// The header at a place.
 #[tactic(auto, unfolding(crate::specs::Headers::header_at))]
-pub(crate) fn header_at(bytes: &[u8], at: usize) -> Result<Header, Broken>
+pub(crate) fn header_at(store: &TupleStore, at: usize) -> Result<TupleStoreHeader, Fault>
     requires { at ≤ 4 }
-    ensures exact { Gives header_of result (header_at bytes.now at) }
+    ensures exact { Gives header_of result (header_at (store_of store.now) at) }
     ensures few { IfOk result (λ h. h.tuples < 4096) }
     ensures data { IfOk result (λ h. h.data_at < 65536) }
-    ensures room { IfOk result (λ h. at + 4 ≤ length bytes.now) }
-    ensures within { IfErr result (λ e. e.at ≤ length bytes.now) }
+    ensures room { IfOk result (λ h. at + 4 ≤ length store.now.bytes.now) }
 {
-    let count = word_at(bytes, at)?;
-    let data_at = usize::from(word_at(bytes, at + 2)?);
-    if data_at > bytes.len() {
-        return Err(Broken { at: at + 2 });
+    let count = store.word(at)?;
+    let data_at = usize::from(store.word(at + 2)?);
+    if data_at > store.bytes.len() {
+        return Err(store.broken(at + 2));
     }
-    Ok(Header {
+    Ok(TupleStoreHeader {
         tuples: usize::from(count % TUPLES),
         shares_points: has(count, SHARED_POINT_NUMBERS),
         data_at,
@@ -78,9 +77,9 @@ pub fn tuple_count(table: TupleTable, bytes: &[u8]) -> usize
     ensures exact { result ≡ tuple_count table bytes.now }
     ensures few { result < 4096 }
 {
-    match word_at(bytes, table.header_place()) {
-        Ok(count) => usize::from(count % TUPLES),
-        Err(_) => 0,
+    match u16_at(bytes, table.header_place()) {
+        Some(count) => usize::from(count % TUPLES),
+        None => 0,
     }
 }
 
@@ -94,7 +93,7 @@ struct Peak<'a> {
 /// A tuple's ends, and the place after them.
 #[derive(Clone, Copy)]
 struct PlacedSides<'a> {
-    sides: Option<Sides<'a>>,
+    sides: Option<RegionSides<'a>>,
     next: usize,
 }
 
@@ -117,17 +116,15 @@ impl<'a> TupleSource<'a> {
     }
 
     /// The shared peak that an index names, for the tuple at a place.
-    fn shared_peak(&self, at: usize, index: u16) -> Result<Peak<'a>, Broken>
-        requires size { length self.now.bytes.now ≤ font_limit }
-        requires place { at + 4 ≤ length self.now.bytes.now }
-        ensures exact { Gives peak_of result (shared_peak self.now.shared.now (length self.now.coordinates.now) index at) }
+    fn shared_peak(&self, at: usize, index: u16) -> Result<Peak<'a>, Fault>
+        requires place { at + 4 ≤ length self.now.store.bytes.now }
+        ensures exact { Gives peak_of result (shared_peak (source_of self.now) at index) }
         ensures next { IfOk result (λ p. p.next ≡ at + 4) }
-        ensures within { IfErr result (λ e. e.at ≤ length self.now.bytes.now) }
     {
         let size = self.tuple_size();
         let from = size * usize::from(index % 4096);
         if from + size > self.shared.len() {
-            return Err(Broken { at: at + 2 });
+            return Err(self.store.broken(at + 2));
         }
         Ok(Peak {
             peak: &self.shared[from..from + size],
@@ -137,31 +134,27 @@ impl<'a> TupleSource<'a> {
 
     /// The peak of the tuple at a place.
     #[tactic(auto, unfolding(crate::specs::Headers::peak_at))]
-    fn peak_at(&self, at: usize, index: u16) -> Result<Peak<'a>, Broken>
-        requires size { length self.now.bytes.now ≤ font_limit }
-        requires place { at + 4 ≤ length self.now.bytes.now }
+    fn peak_at(&self, at: usize, index: u16) -> Result<Peak<'a>, Fault>
+        requires place { at + 4 ≤ length self.now.store.bytes.now }
         ensures exact { Gives peak_of result (peak_at (source_of self.now) at index) }
-        ensures room { IfOk result (λ p. p.next ≤ length self.now.bytes.now) }
-        ensures within { IfErr result (λ e. e.at ≤ length self.now.bytes.now) }
+        ensures room { IfOk result (λ p. p.next ≤ length self.now.store.bytes.now) }
     {
         if !has(index, EMBEDDED_PEAK_TUPLE) {
             return self.shared_peak(at, index);
         }
         let size = self.tuple_size();
         Ok(Peak {
-            peak: slice_at(self.bytes, at + 4, size)?,
+            peak: self.store.slice(at + 4, size)?,
             next: at + 4 + size,
         })
     }
 
     /// The ends of a tuple's region, from a place on.
     #[tactic(auto, unfolding(crate::specs::Headers::sides_at))]
-    fn sides_at(&self, at: usize, index: u16) -> Result<PlacedSides<'a>, Broken>
-        requires size { length self.now.bytes.now ≤ font_limit }
-        requires place { at ≤ length self.now.bytes.now }
+    fn sides_at(&self, at: usize, index: u16) -> Result<PlacedSides<'a>, Fault>
+        requires place { at ≤ length self.now.store.bytes.now }
         ensures exact { Gives sides_read result (sides_at (source_of self.now) at index) }
-        ensures room { IfOk result (λ s. s.next ≤ length self.now.bytes.now) }
-        ensures within { IfErr result (λ e. e.at ≤ length self.now.bytes.now) }
+        ensures room { IfOk result (λ s. s.next ≤ length self.now.store.bytes.now) }
     {
         if !has(index, INTERMEDIATE_REGION) {
             return Ok(PlacedSides {
@@ -170,26 +163,24 @@ impl<'a> TupleSource<'a> {
             });
         }
         let size = self.tuple_size();
-        let start = slice_at(self.bytes, at, size)?;
-        let end = slice_at(self.bytes, at + size, size)?;
+        let start = self.store.slice(at, size)?;
+        let end = self.store.slice(at + size, size)?;
         Ok(PlacedSides {
-            sides: Some(Sides { start, end }),
+            sides: Some(RegionSides { start, end }),
             next: at + size + size,
         })
     }
 
     /// The header of the tuple at a place.
     #[tactic(auto, unfolding(crate::specs::Headers::tuple_header_at))]
-    pub(crate) fn tuple_header_at(&self, at: usize) -> Result<TupleHeader, Broken>
-        requires size { length self.now.bytes.now ≤ font_limit }
-        requires place { at ≤ length self.now.bytes.now }
+    pub(crate) fn tuple_header_at(&self, at: usize) -> Result<TupleHeader, Fault>
+        requires place { at ≤ length self.now.store.bytes.now }
         ensures exact { Gives tuple_header_of result (tuple_header_at (source_of self.now) at) }
         ensures bound { IfOk result (λ h. h.size < 65536) }
-        ensures room { IfOk result (λ h. h.next ≤ length self.now.bytes.now) }
-        ensures within { IfErr result (λ e. e.at ≤ length self.now.bytes.now) }
+        ensures room { IfOk result (λ h. h.next ≤ length self.now.store.bytes.now) }
     {
-        let size = word_at(self.bytes, at)?;
-        let index = word_at(self.bytes, at + 2)?;
+        let size = self.store.word(at)?;
+        let index = self.store.word(at + 2)?;
         let peak = self.peak_at(at, index)?;
         let sides = self.sides_at(peak.next, index)?;
         let region = Region {

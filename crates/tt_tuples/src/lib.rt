@@ -3,18 +3,18 @@
 
 mod bytes;
 mod deltas;
-mod fault;
 mod header;
 pub mod laws;
 mod point_numbers;
 mod region;
 mod source;
 mod tuple;
+mod tuple_store;
 mod tuples;
 
-pub use fault::{Broken, TuplesFault};
 pub use header::tuple_count;
-pub use point_numbers::Points;
+pub use point_numbers::TuplePoints;
 pub use source::{TupleSource, TupleTable};
 pub use tuple::Tuple;
+pub use tuple_store::TupleStore;
 pub use tuples::Tuples;

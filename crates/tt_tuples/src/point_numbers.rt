@@ -4,15 +4,15 @@ ghost use Rattle.std.specs.Prelude.{◌≡◌, ◌+◌, ◌<◌, ◌≤◌, ◌^
 ghost use Rattle.tt_core.specs.Limits.{font_limit};
 ghost use Rattle.tt_core.specs.Outcomes.{Gives};
 ghost use Rattle.tt_tuples.specs.PointNumbers.{number_run_at, number_run, difference_in, number_in, next_number, numbers_at, count_at, listed, points_at};
-ghost use Rattle.tt_tuples.specs.PointNumbers.{Points as points};
+ghost use Rattle.tt_tuples.specs.PointNumbers.{TuplePoints as points};
 ghost use Rattle.tt_tuples.specs.Sources.{AreNumbers, delta_count};
 ghost use Rattle.tt_tuples.specs.Tuples.{tuple_points};
-ghost use Rattle.tt_tuples.specs.Views.{count_of, named_points, number_of, number_run_of, points_of, read_into, source_of};
+ghost use Rattle.tt_tuples.specs.Views.{count_of, store_of, named_points, number_of, number_run_of, points_of, read_into, source_of};
 
-use crate::bytes::{byte_at, word_at};
-use crate::fault::Broken;
 use crate::source::TupleSource;
+use crate::tuple_store::TupleStore;
 use std::alloc::{AllocError, Global};
+use tt_core::Fault;
 
 /// A run of differences between point numbers.
 #[derive(Clone, Copy)]
@@ -35,14 +35,12 @@ struct Number {
 impl NumberRun {
     /// The run that begins at a place.
     #[tactic(auto, unfolding(crate::specs::PointNumbers::number_run_at))]
-    fn begin(bytes: &[u8], at: usize) -> Result<NumberRun, Broken>
-        requires { length bytes.now ≤ font_limit }
-        ensures exact { Gives number_run_of result (number_run_at bytes.now at) }
+    fn begin(store: &TupleStore, at: usize) -> Result<NumberRun, Fault>
+        ensures exact { Gives number_run_of result (number_run_at (store_of store.now) at) }
         ensures some { IfOk result (λ r. 0 < r.left) }
-        ensures room { IfOk result (λ r. r.at ≤ length bytes.now) }
-        ensures within { IfErr result (λ e. e.at ≤ length bytes.now) }
+        ensures room { IfOk result (λ r. r.at ≤ length store.now.bytes.now) }
     {
-        let control = byte_at(bytes, at)?;
+        let control = store.byte(at)?;
         Ok(NumberRun {
             at: at + 1,
             left: usize::from(control % 128) + 1,
@@ -52,16 +50,14 @@ impl NumberRun {
 
     /// This run, or the one after it if it has ended.
     #[inline(always)]
-    fn going_on(self, bytes: &[u8]) -> Result<NumberRun, Broken>
-        requires place { self.at ≤ length bytes.now }
-        requires size { length bytes.now ≤ font_limit }
-        ensures exact { Gives number_run_of result (number_run bytes.now (number_run_of self)) }
+    fn going_on(self, store: &TupleStore) -> Result<NumberRun, Fault>
+        requires place { self.at ≤ length store.now.bytes.now }
+        ensures exact { Gives number_run_of result (number_run (store_of store.now) (number_run_of self)) }
         ensures some { IfOk result (λ r. 0 < r.left) }
-        ensures room { IfOk result (λ r. r.at ≤ length bytes.now) }
-        ensures within { IfErr result (λ e. e.at ≤ length bytes.now) }
+        ensures room { IfOk result (λ r. r.at ≤ length store.now.bytes.now) }
     {
         if self.left == 0 {
-            NumberRun::begin(bytes, self.at)
+            NumberRun::begin(store, self.at)
         } else {
             Ok(self)
         }
@@ -77,31 +73,29 @@ impl NumberRun {
 
     /// The next difference.
     #[inline(always)]
-    fn difference(self, bytes: &[u8]) -> Result<u16, Broken>
-        ensures exact { Gives (λ n. n) result (difference_in bytes.now (number_run_of self)) }
-        ensures room { IfOk result (λ n. self.at + (if self.words then 2 else 1) ≤ length bytes.now) }
-        ensures within { IfErr result (λ e. e.at ≤ length bytes.now) }
+    fn difference(self, store: &TupleStore) -> Result<u16, Fault>
+        ensures exact { Gives (λ n. n) result (difference_in (store_of store.now) (number_run_of self)) }
+        ensures room { IfOk result (λ n. self.at + (if self.words then 2 else 1) ≤ length store.now.bytes.now) }
     {
         if self.words {
-            word_at(bytes, self.at)
+            store.word(self.at)
         } else {
-            Ok(u16::from(byte_at(bytes, self.at)?))
+            Ok(u16::from(store.byte(self.at)?))
         }
     }
 
     /// The next number, above the one before it.
     #[inline(always)]
-    fn number(self, bytes: &[u8], before: Option<u16>) -> Result<u16, Broken>
-        ensures exact { Gives (λ n. n) result (number_in bytes.now (number_run_of self) before) }
-        ensures room { IfOk result (λ n. self.at + (if self.words then 2 else 1) ≤ length bytes.now) }
-        ensures within { IfErr result (λ e. e.at ≤ length bytes.now) }
+    fn number(self, store: &TupleStore, before: Option<u16>) -> Result<u16, Fault>
+        ensures exact { Gives (λ n. n) result (number_in (store_of store.now) (number_run_of self) before) }
+        ensures room { IfOk result (λ n. self.at + (if self.words then 2 else 1) ≤ length store.now.bytes.now) }
     {
-        let by = self.difference(bytes)?;
+        let by = self.difference(store)?;
         match before {
             None => Ok(by),
             Some(before) => match before.checked_add(by) {
                 Some(number) if number > before => Ok(number),
-                _ => Err(Broken { at: self.at }),
+                _ => Err(store.broken(self.at)),
             },
         }
     }
@@ -109,15 +103,13 @@ impl NumberRun {
     /// The next number, and the run after it.
     #[inline(always)]
     #[tactic(auto, unfolding(crate::specs::PointNumbers::next_number))]
-    fn next(self, bytes: &[u8], before: Option<u16>) -> Result<Number, Broken>
-        requires place { self.at ≤ length bytes.now }
-        requires size { length bytes.now ≤ font_limit }
-        ensures exact { Gives number_of result (next_number bytes.now (number_run_of self) before) }
-        ensures room { IfOk result (λ n. n.run.at ≤ length bytes.now) }
-        ensures within { IfErr result (λ e. e.at ≤ length bytes.now) }
+    fn next(self, store: &TupleStore, before: Option<u16>) -> Result<Number, Fault>
+        requires place { self.at ≤ length store.now.bytes.now }
+        ensures exact { Gives number_of result (next_number (store_of store.now) (number_run_of self) before) }
+        ensures room { IfOk result (λ n. n.run.at ≤ length store.now.bytes.now) }
     {
-        let run = self.going_on(bytes)?;
-        let number = run.number(bytes, before)?;
+        let run = self.going_on(store)?;
+        let number = run.number(store, before)?;
         let run = NumberRun {
             at: run.at + run.size(),
             left: run.left - 1,
@@ -130,18 +122,16 @@ impl NumberRun {
 /// Reads `count` numbers from a place into a list. Returns the place after them.
 #[tactic(auto, using(crate::proofs::NumberRuns::turn, crate::proofs::NumberRuns::breaks, crate::proofs::NumberRuns::done))]
 fn read_numbers(
-    bytes: &[u8],
+    store: &TupleStore,
     at: usize,
     count: usize,
     numbers: &mut Vec<u16>,
-) -> Result<usize, Broken>
-    requires place { at ≤ length bytes.now }
-    requires size { length bytes.now ≤ font_limit }
+) -> Result<usize, Fault>
+    requires place { at ≤ length store.now.bytes.now }
     requires room { count ≤ vec_capacity numbers.old }
-    ensures exact { Gives (read_into numbers.new.items) result (numbers_at bytes.now at count) }
+    ensures exact { Gives (read_into numbers.new.items) result (numbers_at (store_of store.now) at count) }
     ensures count { OnOk result (vec_len numbers.new ≡ count) }
-    ensures next { IfOk result (λ next. next ≤ length bytes.now) }
-    ensures within { IfErr result (λ e. e.at ≤ length bytes.now) }
+    ensures next { IfOk result (λ next. next ≤ length store.now.bytes.now) }
     ensures capacity { vec_capacity numbers.new ≡ vec_capacity numbers.old }
 {
     numbers.clear();
@@ -152,7 +142,7 @@ fn read_numbers(
     };
     let mut before = None;
     for _ in 0..count {
-        let number = run.next(bytes, before)?;
+        let number = run.next(store, before)?;
         numbers.push_reserved(number.number);
         before = Some(number.number);
         run = number.run;
@@ -169,21 +159,19 @@ struct Count {
 
 /// The number of listed points at a place.
 #[tactic(auto, unfolding(crate::specs::PointNumbers::count_at))]
-fn count_at(bytes: &[u8], at: usize) -> Result<Count, Broken>
-    requires { length bytes.now ≤ font_limit }
-    ensures exact { Gives count_of result (count_at bytes.now at) }
-    ensures room { IfOk result (λ c. c.next ≤ length bytes.now) }
-    ensures first { IfOk result (λ c. at < length bytes.now) }
-    ensures within { IfErr result (λ e. e.at ≤ length bytes.now) }
+fn count_at(store: &TupleStore, at: usize) -> Result<Count, Fault>
+    ensures exact { Gives count_of result (count_at (store_of store.now) at) }
+    ensures room { IfOk result (λ c. c.next ≤ length store.now.bytes.now) }
+    ensures first { IfOk result (λ c. at < length store.now.bytes.now) }
 {
-    let first = byte_at(bytes, at)?;
+    let first = store.byte(at)?;
     if first < 128 {
         return Ok(Count {
             count: usize::from(first),
             next: at + 1,
         });
     }
-    let low = byte_at(bytes, at + 1)?;
+    let low = store.byte(at + 1)?;
     Ok(Count {
         count: 256 * usize::from(first - 128) + usize::from(low),
         next: at + 2,
@@ -192,19 +180,19 @@ fn count_at(bytes: &[u8], at: usize) -> Result<Count, Broken>
 
 /// The points that a tuple names. Their numbers rise, and may be above those of the glyph.
 #[derive(Clone, Copy)]
-pub enum Points<'a> {
+pub enum TuplePoints<'a> {
     All,
     Listed(&'a [u16]),
 }
 
-impl<'a> Points<'a> {
+impl<'a> TuplePoints<'a> {
     /// How many points are named, where there are `points`.
     pub fn count(self, points: usize) -> usize
         ensures { result ≡ delta_count (named_points self.entry) points }
     {
         match self {
-            Points::All => points,
-            Points::Listed(numbers) => numbers.len(),
+            TuplePoints::All => points,
+            TuplePoints::Listed(numbers) => numbers.len(),
         }
     }
 }
@@ -229,36 +217,39 @@ impl NumberList {
         })
     }
 
-    pub(crate) fn points(&self) -> Points<'_>
+    pub(crate) fn points(&self) -> TuplePoints<'_>
         ensures { named_points result ≡ points_of self.now }
     {
         if self.all {
-            Points::All
+            TuplePoints::All
         } else {
-            Points::Listed(&self.numbers)
+            TuplePoints::Listed(&self.numbers)
         }
     }
 
     /// Reads the point numbers at a place. Returns the place after them.
     #[tactic(auto, unfolding(crate::specs::PointNumbers::points_at, crate::specs::PointNumbers::listed_at))]
-    pub(crate) fn read(&mut self, bytes: &[u8], at: usize, points: usize) -> Result<usize, Broken>
-        requires size { length bytes.now ≤ font_limit }
+    pub(crate) fn read(
+        &mut self,
+        store: &TupleStore,
+        at: usize,
+        points: usize,
+    ) -> Result<usize, Fault>
         requires room { points ≤ vec_capacity self.old.numbers }
-        ensures exact { Gives (read_into (points_of self.new)) result (points_at bytes.now at points) }
+        ensures exact { Gives (read_into (points_of self.new)) result (points_at (store_of store.now) at points) }
         ensures numbers { OnOk result (AreNumbers points (points_of self.new)) }
-        ensures next { IfOk result (λ next. next ≤ length bytes.now) }
-        ensures within { IfErr result (λ e. e.at ≤ length bytes.now) }
+        ensures next { IfOk result (λ next. next ≤ length store.now.bytes.now) }
         ensures capacity { vec_capacity self.new.numbers ≡ vec_capacity self.old.numbers }
     {
-        self.all = byte_at(bytes, at)? == 0;
+        self.all = store.byte(at)? == 0;
         if self.all {
             return Ok(at + 1);
         }
-        let count = count_at(bytes, at)?;
+        let count = count_at(store, at)?;
         if count.count > points {
-            return Err(Broken { at });
+            return Err(store.broken(at));
         }
-        read_numbers(bytes, count.next, count.count, &mut self.numbers)
+        read_numbers(store, count.next, count.count, &mut self.numbers)
     }
 
     /// Reads the point numbers at the place of a tuple's data, if the tuple has its own. Returns the place of the deltas.
@@ -267,19 +258,17 @@ impl NumberList {
         source: &TupleSource,
         own: bool,
         at: usize,
-    ) -> Result<usize, Broken>
-        requires size { length source.now.bytes.now ≤ font_limit }
+    ) -> Result<usize, Fault>
         requires room { source.now.points ≤ vec_capacity self.old.numbers }
         requires place { at < 2 ^ 32 }
         ensures exact { (shared : points) → Gives (read_into (if own then points_of self.new else shared)) result
             (tuple_points (source_of source.now) shared own at) }
         ensures numbers { OnOk result (IsTrue own → AreNumbers source.now.points (points_of self.new)) }
         ensures next { IfOk result (λ next. next < 2 ^ 32) }
-        ensures within { IfErr result (λ e. e.at ≤ length source.now.bytes.now) }
         ensures capacity { vec_capacity self.new.numbers ≡ vec_capacity self.old.numbers }
     {
         if own {
-            self.read(source.bytes, at, source.points)
+            self.read(&source.store, at, source.points)
         } else {
             Ok(at)
         }

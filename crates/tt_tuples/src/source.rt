@@ -1,6 +1,11 @@
 //! The sources of tuples.
 
-use tt_axes::Coordinates;
+ghost use Rattle.std.specs.Prelude.{◌≡◌, IsTrue};
+ghost use Rattle.tt_core.specs.Faults.{is_ascii};
+ghost use Rattle.tt_tuples.specs.Bytes.{tag_of};
+
+use crate::tuple_store::TupleStore;
+use tt_axes::InstanceCoordinates;
 
 /// The table that has the tuples.
 #[derive(Clone, Copy, Debug, PartialEq, Eq)]
@@ -11,16 +16,26 @@ pub enum TupleTable {
     Cvar,
 }
 
+impl TupleTable {
+    pub(crate) fn tag(self) -> [u8; 4]
+        ensures exact { result ≡ tag_of self }
+        ensures ascii { IsTrue (is_ascii result) }
+    {
+        match self {
+            TupleTable::Gvar => *b"gvar",
+            TupleTable::Cvar => *b"cvar",
+        }
+    }
+}
+
 /// The source of a reader of tuples.
 #[derive(Clone, Copy)]
 pub struct TupleSource<'a> {
-    pub table: TupleTable,
-    /// The data of a glyph in gvar, or the whole table cvar.
-    pub bytes: &'a [u8],
+    pub store: TupleStore<'a>,
     /// The shared tuples of gvar, each a 2.14 for each axis. Tuples of cvar name them too.
     pub shared: &'a [u8],
     /// The coordinates of the instance.
-    pub coordinates: &'a Coordinates,
+    pub coordinates: &'a InstanceCoordinates,
     /// How many points the glyph has, with its four phantom points; or how many control values there are.
     pub points: usize,
 }
