@@ -1,7 +1,7 @@
 -- OpenType, "gvar", "'glyphVariationData' table": the points of a glyph at an instance. All tuples that hold are added
 -- up; deltas are inferred by the original coordinates, tuple by tuple. The points are those of a simple glyph, or a
 -- composite glyph's components, and four phantom points.
-use Rattle.std.specs.Prelude.{ℕ, ℤ, ◌+◌, List, [], ◌∷◌, length, Option, Some, None, Result, Ok, Err}
+use Rattle.std.specs.Prelude.{ℕ, ℤ, List, [], ◌∷◌, length, Option, Some, None, Result, Ok}
 use Rattle.tt_core.specs.Outcomes.{◌>>=◌}
 use Rattle.tt_core.specs.Faults.{Fault}
 use Rattle.tt_tuples.specs.declared.source.TupleTable.TheVariants as table
@@ -9,7 +9,7 @@ use Rattle.tt_tuples.specs.PointNumbers.{TuplePoints, all_points, listed}
 use Rattle.tt_tuples.specs.Sources.{Source, Tuple}
 use Rattle.tt_tuples.specs.Tuples.{tuples_of}
 use Rattle.tt_deltas.specs.Along.{AreNumbers, varied_along}
-use Rattle.tt_deltas.specs.Gvar.{GlyphData, Gvar, glyph_data_of, gvar_tag, shared_bytes_of}
+use Rattle.tt_deltas.specs.Gvar.{GlyphData, Gvar, glyph_data_of, shared_bytes_of}
 use Rattle.tt_deltas.specs.declared.varied.Varied.{Varied}
 
 -- the coordinates of points along both axes

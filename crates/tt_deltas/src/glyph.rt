@@ -1,6 +1,6 @@
 //! The points of a glyph at an instance. OpenType, "gvar", "'glyphVariationData' table".
 
-ghost use Rattle.std.specs.Prelude.{◌≡◌, ◌+◌, ◌<◌, ◌≤◌, ◌^◌, length, vec_capacity, All, IfErr, IfOk, ℕ, option_copied};
+ghost use Rattle.std.specs.Prelude.{◌≡◌, ◌+◌, ◌<◌, ◌≤◌, ◌^◌, length, vec_capacity, All, IfOk, ℕ, option_copied};
 ghost use Rattle.tt_core.specs.Limits.{font_limit};
 ghost use Rattle.tt_core.specs.Outcomes.{FontGives, Gives};
 ghost use Rattle.tt_deltas_inference.specs.Bounds.{AreContourEnds};

@@ -1,6 +1,6 @@
 -- Worked values of whole tuples. A glyph has four points and four phantom points; cvar has three control values. The
 -- font has one axis, and the instance is at its end, where the only shared tuple has its peak.
-use Rattle.std.specs.Prelude.{◌≡◌, refl, ℕ, ℤ, pos, negsuc, List, [], ◌∷◌, map, codes, Result, Ok, Err}
+use Rattle.std.specs.Prelude.{◌≡◌, refl, ℕ, ℤ, pos, negsuc, List, [], ◌∷◌, map, codes, Ok, Err}
 use Rattle.tt_core.specs.declared.fault.Why.TheVariants as why
 use Rattle.tt_core.specs.Faults.{Fault, fault_at}
 use Rattle.tt_axes.specs.Shares.{share_of_tuple_axis}

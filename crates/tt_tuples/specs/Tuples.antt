@@ -1,7 +1,7 @@
 -- OpenType, "OpenType Font Variations Common Table Formats", "Tuple Variation Store": the tuples that hold at an instance,
 -- with their points and deltas, or the first defect that reading meets. A tuple that does not hold is read no further
 -- than its header. Data begin where the sizes before say, and end where the bytes end (profile).
-use Rattle.std.specs.Prelude.{◌≡◌, ℕ, zero, suc, ◌+◌, ◌==◌, Bool, true, false, if◌then◌else◌, ℤ, Option, Some, None, IfSome, List, [], ◌∷◌, Result, Ok, Err}
+use Rattle.std.specs.Prelude.{◌≡◌, ℕ, zero, suc, ◌+◌, ◌==◌, Bool, true, false, if◌then◌else◌, ℤ, IfSome, List, [], ◌∷◌, Result, Ok, Err}
 use Rattle.tt_core.specs.declared.font_fault.FontFault.{FontFault}
 use Rattle.tt_core.specs.Faults.{Fault}
 use Rattle.tt_core.specs.Outcomes.{◌>>=◌, font_fault}

@@ -1,7 +1,6 @@
 //! Packed deltas. OpenType, "OpenType Font Variations Common Table Formats".
 
-ghost use Rattle.std.specs.Prelude.{◌≡◌, ◌+◌, ◌<◌, ◌≤◌, ◌^◌, length, vec_len, vec_capacity, IfOk, IfErr, OnOk};
-ghost use Rattle.tt_core.specs.Limits.{font_limit};
+ghost use Rattle.std.specs.Prelude.{◌≡◌, ◌+◌, ◌<◌, ◌≤◌, ◌^◌, vec_len, vec_capacity, IfOk, OnOk};
 ghost use Rattle.tt_core.specs.Outcomes.{Gives};
 ghost use Rattle.tt_tuples.specs.Bytes.{signed8};
 ghost use Rattle.tt_tuples.specs.Deltas.{size_in, delta_run_at, delta_run, sized_delta, bytes_of, delta_passed, next_delta, deltas_at};

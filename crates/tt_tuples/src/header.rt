@@ -1,7 +1,6 @@
 //! Headers of tuples. OpenType, "OpenType Font Variations Common Table Formats".
 
-ghost use Rattle.std.specs.Prelude.{◌≡◌, ◌+◌, ◌*◌, ◌<◌, ◌≤◌, length, IfOk, IfErr};
-ghost use Rattle.tt_core.specs.Limits.{font_limit};
+ghost use Rattle.std.specs.Prelude.{◌≡◌, ◌+◌, ◌*◌, ◌<◌, ◌≤◌, length, IfOk};
 ghost use Rattle.tt_core.specs.Outcomes.{Gives};
 ghost use Rattle.tt_tuples.specs.Headers.{has, header_at, header_place, peak_at, shared_peak, sides_at, tuple_count, tuple_header_at};
 ghost use Rattle.tt_tuples.specs.Views.{store_of, header_of, peak_of, sides_read, source_of, tuple_header_of};

@@ -1,7 +1,6 @@
 //! Packed point numbers. OpenType, "OpenType Font Variations Common Table Formats".
 
-ghost use Rattle.std.specs.Prelude.{◌≡◌, ◌+◌, ◌<◌, ◌≤◌, ◌^◌, IsTrue, length, vec_len, vec_capacity, [], IfOk, IfErr, OnOk, if◌then◌else◌};
-ghost use Rattle.tt_core.specs.Limits.{font_limit};
+ghost use Rattle.std.specs.Prelude.{◌≡◌, ◌+◌, ◌<◌, ◌≤◌, ◌^◌, IsTrue, length, vec_len, vec_capacity, [], IfOk, OnOk, if◌then◌else◌};
 ghost use Rattle.tt_core.specs.Outcomes.{Gives};
 ghost use Rattle.tt_tuples.specs.PointNumbers.{number_run_at, number_run, difference_in, number_in, next_number, numbers_at, count_at, listed, points_at};
 ghost use Rattle.tt_tuples.specs.PointNumbers.{TuplePoints as points};

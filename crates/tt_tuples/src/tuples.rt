@@ -1,10 +1,10 @@
 //! The tuples that hold at an instance. OpenType, "OpenType Font Variations Common Table Formats".
 
-ghost use Rattle.std.specs.Prelude.{◌≡◌, ◌+◌, ◌-◌, ◌<◌, ◌≤◌, ◌^◌, length, IfOk, IfErr, OnOk, OnErr, IsTrue};
+ghost use Rattle.std.specs.Prelude.{◌≡◌, ◌+◌, ◌-◌, ◌<◌, ◌≤◌, ◌^◌, length, IfOk, OnOk, OnErr, IsTrue};
 ghost use Rattle.tt_core.specs.Limits.{font_limit};
 ghost use Rattle.tt_core.specs.Outcomes.{FontGives};
 ghost use Rattle.tt_tuples.specs.Sources.{AreNumbers, IsTuple};
-ghost use Rattle.tt_tuples.specs.Tuples.{NextOf, Opens, StepOf, rest, shared_points_of, told, tuples_of};
+ghost use Rattle.tt_tuples.specs.Tuples.{NextOf, Opens, StepOf, rest, shared_points_of, tuples_of};
 ghost use Rattle.tt_tuples.specs.Views.{header_of, points_of, shared_of, source_of, tuple_of};
 
 use crate::header::{TupleHeader, TupleStoreHeader, header_at};
