@@ -17,7 +17,7 @@ use std::alloc::{AllocError, Global};
 use tt_axes::InstanceCoordinates;
 use tt_core::{Fault, FontFault, u32_at};
 use tt_deltas_inference::AxisPoint;
-use tt_tuples::{TupleSource, TupleStore, TupleTable, Tuples};
+use tt_tuples::{TupleSource, TupleTable, Tuples};
 
 /// Adds the deltas of all tuples that are left.
 fn vary_by_all(
@@ -102,16 +102,14 @@ impl<'a> Gvar<'a> {
         if !is_cvar(cvar) {
             return Ok(varied);
         }
-        let source = TupleSource {
-            store: TupleStore {
-                table: TupleTable::Cvar,
-                start: 0,
-                bytes: cvar,
-            },
-            shared: self.shared(),
+        let source = TupleSource::new(
+            TupleTable::Cvar,
+            0,
+            cvar,
+            self.shared(),
             coordinates,
-            points: values.len(),
-        };
+            values.len(),
+        );
         match vary_values(alloc, source, &mut varied) {
             Ok(()) => Ok(varied),
             Err(FontFault::Font(_)) => still(alloc, values),

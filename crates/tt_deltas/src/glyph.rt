@@ -17,7 +17,7 @@ use std::alloc::Global;
 use tt_axes::InstanceCoordinates;
 use tt_core::{Fault, FontFault};
 use tt_deltas_inference::AxisPoint;
-use tt_tuples::{Tuple, TuplePoints, TupleSource, TupleStore, TupleTable, Tuples};
+use tt_tuples::{Tuple, TuplePoints, TupleSource, TupleTable, Tuples};
 
 /// The numbers of the points that a tuple names; none: all points.
 pub(crate) fn numbers_of<'a>(points: TuplePoints<'a>) -> Option<&'a [u16]>
@@ -144,16 +144,14 @@ impl<'a> Gvar<'a> {
         let Some(data) = self.data(g)? else {
             return Ok(());
         };
-        let source = TupleSource {
-            store: TupleStore {
-                table: TupleTable::Gvar,
-                start: data.start,
-                bytes: data.bytes,
-            },
-            shared: self.shared(),
+        let source = TupleSource::new(
+            TupleTable::Gvar,
+            data.start,
+            data.bytes,
+            self.shared(),
             coordinates,
-            points: xs.len(),
-        };
+            xs.len(),
+        );
         vary_points(alloc, source, xs, ys, ends)
     }
 }

@@ -1,8 +1,10 @@
 //! The sources of tuples.
 
-ghost use Rattle.std.specs.Prelude.{◌≡◌, IsTrue};
+ghost use Rattle.std.specs.Prelude.{◌≡◌, ◌+◌, ◌≤◌, length, IsTrue};
 ghost use Rattle.tt_core.specs.Faults.{is_ascii};
+ghost use Rattle.tt_core.specs.Limits.{font_limit};
 ghost use Rattle.tt_tuples.specs.Bytes.{tag_of};
+ghost use Rattle.tt_tuples.specs.Views.{source_of};
 
 use crate::tuple_store::TupleStore;
 use tt_axes::InstanceCoordinates;
@@ -38,4 +40,38 @@ pub struct TupleSource<'a> {
     pub coordinates: &'a InstanceCoordinates,
     /// How many points the glyph has, with its four phantom points; or how many control values there are.
     pub points: usize,
+}
+
+impl<'a> TupleSource<'a> {
+    /// The source of tuples in bytes of a table that begin at an offset.
+    pub fn new(
+        table: TupleTable,
+        start: usize,
+        bytes: &'a [u8],
+        shared: &'a [u8],
+        coordinates: &'a InstanceCoordinates,
+        points: usize,
+    ) -> TupleSource<'a>
+        requires { start + length bytes.now ≤ font_limit }
+        ensures exact { source_of result ≡ record {
+          store = record { table = table; start = start; bytes = bytes.now };
+          shared = shared.now;
+          coordinates = coordinates.now;
+          points = points;
+        } }
+        ensures table { result.store.table ≡ table }
+        ensures points { result.points ≡ points }
+    {
+        let store = TupleStore {
+            table,
+            start,
+            bytes,
+        };
+        TupleSource {
+            store,
+            shared,
+            coordinates,
+            points,
+        }
+    }
 }
