@@ -9,6 +9,10 @@ ghost use Rattle.tt_tuples.specs.Views.{source_of};
 use crate::tuple_store::TupleStore;
 use tt_axes::InstanceCoordinates;
 
+const GVAR: [u8; 4] = *b"gvar";
+
+const CVAR: [u8; 4] = *b"cvar";
+
 /// The table that has the tuples.
 #[derive(Clone, Copy, Debug, PartialEq, Eq)]
 pub enum TupleTable {
@@ -24,8 +28,8 @@ impl TupleTable {
         ensures ascii { IsTrue (is_ascii result) }
     {
         match self {
-            TupleTable::Gvar => *b"gvar",
-            TupleTable::Cvar => *b"cvar",
+            TupleTable::Gvar => GVAR,
+            TupleTable::Cvar => CVAR,
         }
     }
 }
