@@ -12,7 +12,7 @@ from dataclasses import dataclass, field
 
 import markdown
 
-PAGES = "docs/PROMISES.md", "docs/C_LIBRARY.md", "docs/INSTRUCTIONS.md"
+PAGES = "docs/PROMISES.md", "docs/C_LIBRARY.md", "docs/INSTRUCTIONS.md", "docs/VARIATIONS.md"
 # What a citation names: in backticks, in italics as a wrong body, or as the plain name of a crate.
 NAME = re.compile(r"`([^`]+)`|\*(\w+)\*|\b(tt_\w+)")
 # Where the functions of a type begin, once angle brackets are left out, and where they end.

@@ -87,7 +87,7 @@ advice_by k f file n =
 unfoldable pub advice : Fault → List ℕ → ℕ → Hint
 advice f file n = advice_by (why_number f.why) f file n
 
--- the same, where axes were asked for: with the tag of an axis that is not there
+-- the same for a request with axes: with the tag of an axis that is not there
 unfoldable pub axis_advice : Fault → List ℕ → ℕ → List ℕ → Hint
 axis_advice f file n tag = if why_number f.why == 27 then hint.NoAxis tag else advice f file n
 

@@ -164,7 +164,7 @@ pub fn advice(fault: Fault, file: &[u8], face: u32) -> Hint
     }
 }
 
-/// The advice about a font that was asked for axes, with the tag of an axis that the font does not have.
+/// The advice about a font for a request with axes, by the tag of an axis that the font does not have.
 #[tactic(auto, unfolding(crate::specs::Advice::axis_advice))]
 pub fn axis_advice(fault: Fault, file: &[u8], face: u32, tag: [u8; 4]) -> Hint
     requires { length file.now ≤ font_limit }

@@ -76,7 +76,7 @@ pub enum FixedHint {
     Program,
     /// One of the shapes of a variable font is drawn.
     Variable,
-    /// An instance was asked for, and the font has one shape.
+    /// The request has an instance, and the font has one shape.
     NotVariable,
     /// The font has no such named instance.
     NoInstance,

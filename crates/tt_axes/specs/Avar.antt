@@ -1,4 +1,4 @@
--- OpenType, "avar: Axis Variations Table": for each axis a list of pairs, by which its coordinate is mapped. A table of
+-- OpenType, "avar: Axis Variations Table": for each axis a list of pairs, which maps the axis' coordinate. A table of
 -- another version, of another count of axes, or whose lists do not fit, is not there (profile).
 use Rattle.std.specs.Prelude.{◌≡◌, refl, ℕ, zero, suc, ◌+◌, ◌-◌, ◌*◌, ℤ, pos, negsuc, ◌+ℤ◌, ◌-ℤ◌, ◌*ℤ◌, int_lt, Bool, true, false, ◌&&◌, ◌==◌, nat_le, if◌then◌else◌, List, [], ◌∷◌, ◌++◌, length, take, map, codes, Option, Some, None, Result, Ok, Err}
 use Rattle.std.specs.Int.{int_max, int_min}
@@ -86,10 +86,10 @@ mapped_by None coordinates = coordinates
 mapped_by (Some avar) coordinates = all_mapped avar coordinates
 
 -- worked values: one axis, from -1 to -1, 0 to 0, 1/2 to 1/4 and 1 to 1
-abbrev avar_with : List ℕ → List ℕ
+abbrev pub avar_with : List ℕ → List ℕ
 avar_with list = (0 ∷ 1 ∷ 0 ∷ 0 ∷ 0 ∷ 0 ∷ 0 ∷ 1 ∷ []) ++ list
 
-abbrev four_pairs : List ℕ
+abbrev pub four_pairs : List ℕ
 four_pairs = avar_with (0 ∷ 4 ∷ 192 ∷ 0 ∷ 192 ∷ 0 ∷ 0 ∷ 0 ∷ 0 ∷ 0 ∷ 32 ∷ 0 ∷ 16 ∷ 0 ∷ 64 ∷ 0 ∷ 64 ∷ 0 ∷ [])
 
 it_is_there : map (λ n. is_avar n four_pairs) (1 ∷ 2 ∷ []) ≡ true ∷ false ∷ []

@@ -2,7 +2,7 @@
 -- and Normalization". A coordinate is not rounded to 2.14 (profile).
 use Rattle.std.specs.Prelude.{◌≡◌, refl, ℕ, ◌+◌, ℤ, pos, negsuc, neg_ℤ, int_lt, int_le, ◌&&◌, if◌then◌else◌, List, [], ◌∷◌, map, codes, slice_range}
 use Rattle.tt_core.specs.Numbers.{signed32, unsigned_at}
-use Rattle.tt_axes.specs.declared.axis.Axis.{Axis}
+use Rattle.tt_axes.specs.declared.axis.VariationAxis.{VariationAxis}
 use Rattle.tt_axes.specs.Fvar.{axis_place, weights}
 use Rattle.tt_axes.specs.Shares.{distance, portion, whole_share}
 
@@ -11,7 +11,7 @@ abbrev pub fixed_at : List ℕ → ℕ → ℤ
 fixed_at bytes at = signed32 (unsigned_at bytes at 4)
 
 -- an axis whose values do not stand in order has its default alone (profile)
-abbrev pub in_order : Axis → Axis
+abbrev pub in_order : VariationAxis → VariationAxis
 in_order a =
     if int_le a.least a.default && int_le a.default a.greatest then a
     else record a { least = a.default; greatest = a.default }
@@ -21,7 +21,7 @@ abbrev pub axis_tag : List ℕ → ℕ → List ℕ
 axis_tag fvar i = slice_range fvar (axis_place fvar i) (axis_place fvar i + 4)
 
 -- the record of axis i: its tag, its least value, its default, its greatest value, flags and a name
-abbrev pub axis_record : List ℕ → ℕ → Axis
+abbrev pub axis_record : List ℕ → ℕ → VariationAxis
 axis_record fvar i = record {
   tag = axis_tag fvar i;
   least = fixed_at fvar (axis_place fvar i + 4);
@@ -31,12 +31,12 @@ axis_record fvar i = record {
   name = unsigned_at fvar (axis_place fvar i + 18) 2;
 }
 
-unfoldable pub axis_of : List ℕ → ℕ → Axis
+unfoldable pub axis_of : List ℕ → ℕ → VariationAxis
 axis_of fvar i = in_order (axis_record fvar i)
 
 -- the coordinate of a place on an axis: 0 at the default, 1 at the greatest value and past it, -1 at the least value and
 -- below it
-unfoldable pub coordinate_on : Axis → ℤ → ℤ
+unfoldable pub coordinate_on : VariationAxis → ℤ → ℤ
 coordinate_on a v =
     if int_lt a.default v then
     (if int_le a.greatest v then pos 65536 else pos (portion whole_share (distance v a.default) (distance a.greatest a.default)))
@@ -45,7 +45,7 @@ coordinate_on a v =
     else pos 0
 
 -- worked values
-abbrev axis_from : ℤ → ℤ → ℤ → Axis
+abbrev axis_from : ℤ → ℤ → ℤ → VariationAxis
 axis_from least default greatest = record {
   tag = codes "wght";
   least = least;

@@ -4,17 +4,13 @@ use Rattle.std.specs.Prelude.{◌≡◌, refl, ℕ, ◌+◌, ◌*◌, ◌<◌, �
 use Rattle.tt_core.specs.declared.fault.Why.TheVariants as why
 use Rattle.tt_core.specs.Directory.{Directory, needed_table, IsDefectIn}
 use Rattle.tt_core.specs.Faults.{Fault, fault_at}
-use Rattle.tt_core.specs.Limits.{font_limit}
+use Rattle.tt_core.specs.Limits.{axis_limit, font_limit}
 use Rattle.tt_core.specs.Numbers.{unsigned_at}
 use Rattle.tt_core.specs.Outcomes.{◌>>=◌}
 
 -- 'fvar'
 abbrev pub fvar_tag : List ℕ
 fvar_tag = codes "fvar"
-
--- axes of a font at most
-abbrev pub axis_limit : ℕ
-axis_limit = 64
 
 -- axesArrayOffset
 abbrev pub axes_place : List ℕ → ℕ

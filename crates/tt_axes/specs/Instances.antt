@@ -1,7 +1,7 @@
 -- OpenType, "fvar: Font Variations Table", "InstanceRecord"; CSS Fonts, "Font variation settings": of the values that a
 -- tag is given, the last one counts. A value counts for each axis with its tag (profile).
 use Rattle.std.specs.Prelude.{◌≡◌, refl, ℕ, ◌+◌, ◌*◌, ℤ, pos, negsuc, Bool, true, false, not, nat_lt, if◌then◌else◌, List, [], ◌∷◌, ◌++◌, map, codes, bytes_eq, is_some, Option, Some, None, Result, Ok, Err, ◌⊎◌}
-use Rattle.std.specs.List.{list_all, range_with_len}
+use Rattle.std.specs.List.{range_with_len}
 use Rattle.tt_core.specs.declared.fault.Why.TheVariants as why
 use Rattle.tt_core.specs.Faults.{Fault, fault_at}
 use Rattle.tt_core.specs.Numbers.{unsigned_at}
@@ -40,7 +40,7 @@ place_of fvar named values i = last_value values (axis_tag fvar i) (first_place 
 abbrev pub coordinate_of : List ℕ → Option ℕ → List AxisValue → ℕ → ℤ
 coordinate_of fvar named values i = coordinate_on (axis_of fvar i) (place_of fvar named values i)
 
--- whether a named instance is there, if one is asked for
+-- whether a named instance is there, if a number is given
 abbrev pub has_instance : List ℕ → Option ℕ → Bool
 has_instance fvar None = true
 has_instance fvar (Some k) = nat_lt k (instance_count fvar)
@@ -48,6 +48,11 @@ has_instance fvar (Some k) = nat_lt k (instance_count fvar)
 -- whether an axis has the tag of a value
 abbrev pub has_axis : List ℕ → AxisValue → Bool
 has_axis fvar p = is_some (first_below (axis_count fvar) (λ i. bytes_eq (axis_tag fvar i) p.tag))
+
+-- the tag of the first value without an axis
+abbrev pub missing_axis : List ℕ → List AxisValue → Option (List ℕ)
+missing_axis fvar [] = None
+missing_axis fvar (p ∷ ps) = if has_axis fvar p then missing_axis fvar ps else Some p.tag
 
 abbrev pub no_instance : Fault
 no_instance = fault_at fvar_tag 12 why.NoInstance
@@ -59,14 +64,14 @@ no_axis = fault_at fvar_tag 8 why.NoAxis
 unfoldable pub coordinates_in : List ℕ → Option ℕ → List AxisValue → Result (List ℤ) Fault
 coordinates_in fvar named values =
     if not (has_instance fvar named) then Err no_instance
-    else if not (list_all (has_axis fvar) values) then Err no_axis
+    else if is_some (missing_axis fvar values) then Err no_axis
     else Ok (map (coordinate_of fvar named values) (range_with_len 0 (axis_count fvar)))
 
 -- what a job asks for in vain
 abbrev pub IsWrongInstance : List ℕ → Option ℕ → List AxisValue → Fault → Type 0
 IsWrongInstance fvar named values fault =
     ((has_instance fvar named ≡ false) × (fault ≡ no_instance))
-    ⊎ ((list_all (has_axis fvar) values ≡ false) × (fault ≡ no_axis))
+    ⊎ ((is_some (missing_axis fvar values) ≡ true) × (fault ≡ no_axis))
 
 -- worked values: the weights with four named instances at 100, 650, 900 and 900
 abbrev pub named_weights : List ℕ
@@ -74,7 +79,7 @@ named_weights =
     with_at 12 (0 ∷ 4 ∷ []) weights
     ++ (1 ∷ 2 ∷ 0 ∷ 0 ∷ 0 ∷ 100 ∷ 0 ∷ 0 ∷ 1 ∷ 3 ∷ 0 ∷ 0 ∷ 2 ∷ 138 ∷ 0 ∷ 0 ∷ 1 ∷ 4 ∷ 0 ∷ 0 ∷ 3 ∷ 132 ∷ 0 ∷ 0 ∷ 1 ∷ 3 ∷ 0 ∷ 0 ∷ 3 ∷ 132 ∷ 0 ∷ 0 ∷ [])
 
-abbrev weight : ℤ → AxisValue
+abbrev pub weight : ℤ → AxisValue
 weight v = record { tag = codes "wght"; value = v }
 
 each_instance : map (λ k. coordinates_in named_weights (Some k) []) (0 ∷ 1 ∷ 2 ∷ 3 ∷ 4 ∷ [])
@@ -100,6 +105,10 @@ the_default = refl
 no_width : coordinates_in weights None (weight (pos 6553600) ∷ record { tag = codes "wdth"; value = pos 6553600 } ∷ []) ≡ Err no_axis
 unfolding coordinates_in
 no_width = refl
+
+its_tag : missing_axis weights (weight (pos 0) ∷ record { tag = codes "wdth"; value = pos 0 } ∷ record { tag = codes "slnt"; value = pos 0 } ∷ [])
+    ≡ Some (codes "wdth")
+its_tag = refl
 
 no_instance_before_no_axis : coordinates_in weights (Some 0) (record { tag = codes "wdth"; value = pos 6553600 } ∷ []) ≡ Err no_instance
 unfolding coordinates_in

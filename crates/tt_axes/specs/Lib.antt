@@ -1,8 +1,11 @@
 pub mod Avar
 pub mod Axes
+pub mod AxisWords
 pub mod Coordinates
 pub mod Fvar
 pub mod InstanceCoordinates
 pub mod Instances
+pub mod Laws
 pub mod Rounding
 pub mod Shares
+pub mod ShownValues

@@ -4,7 +4,7 @@
 use Rattle.std.specs.Prelude.{◌≡◌, refl, ℕ, ◌+◌, ◌*◌, ◌/◌, ◌≤◌, ℤ, pos, negsuc, ◌-ℤ◌, int_lt, int_le, unsigned_abs, Bool, ◌&&◌, ◌||◌, not, if◌then◌else◌, Option, Some, None, [], ◌∷◌, map}
 use Rattle.std.specs.Int.{int_max, int_min}
 use Rattle.std.specs.Ordering.{int_eq}
-use Rattle.tt_axes.specs.declared.region.Ends.{Ends}
+use Rattle.tt_axes.specs.declared.region.RegionEnds.{RegionEnds}
 
 -- the whole
 abbrev pub whole_share : ℕ
@@ -18,7 +18,7 @@ abbrev pub distance : ℤ → ℤ → ℕ
 distance a b = unsigned_abs (a -ℤ b)
 
 -- in a region: nothing at its ends, and the share at its peak
-abbrev pub share_between : ℕ → ℤ → ℤ → Ends → ℕ
+abbrev pub share_between : ℕ → ℤ → ℤ → RegionEnds → ℕ
 share_between share c peak e =
     if int_le c e.start || int_le e.end c then 0
     else let end = (if int_lt c peak then e.start else e.end) in portion share (distance c end) (distance peak end)
@@ -29,12 +29,12 @@ share_to_peak share c peak =
     if int_lt c (int_min (pos 0) peak) || int_lt (int_max (pos 0) peak) c then 0
     else portion share (unsigned_abs c) (unsigned_abs peak)
 
-abbrev pub share_towards : ℕ → ℤ → ℤ → Option Ends → ℕ
+abbrev pub share_towards : ℕ → ℤ → ℤ → Option RegionEnds → ℕ
 share_towards share c peak None = share_to_peak share c peak
 share_towards share c peak (Some e) = share_between share c peak e
 
 -- what an axis with a coordinate leaves of a tuple's share. An axis whose peak is 0 has no effect
-unfoldable pub share_of_tuple_axis : ℕ → ℤ → ℤ → Option Ends → ℕ
+unfoldable pub share_of_tuple_axis : ℕ → ℤ → ℤ → Option RegionEnds → ℕ
 share_of_tuple_axis share c peak ends =
     if int_eq peak (pos 0) then share
     else if int_eq c (pos 0) then 0
@@ -42,13 +42,13 @@ share_of_tuple_axis share c peak ends =
     else share_towards share c peak ends
 
 -- whether a region of a store has an effect: its peak is between its ends and not 0, and 0 is not strictly between them
-abbrev pub has_effect : ℤ → Ends → Bool
+abbrev pub has_effect : ℤ → RegionEnds → Bool
 has_effect peak e =
     int_le e.start peak && int_le peak e.end && not (int_lt e.start (pos 0) && int_lt (pos 0) e.end)
     && not (int_eq peak (pos 0))
 
 -- what an axis with a coordinate leaves of the share of a store's region
-unfoldable pub share_of_region_axis : ℕ → ℤ → ℤ → Ends → ℕ
+unfoldable pub share_of_region_axis : ℕ → ℤ → ℤ → RegionEnds → ℕ
 share_of_region_axis share c peak e =
     if not (has_effect peak e) then share
     else if int_eq c peak then share
@@ -56,22 +56,22 @@ share_of_region_axis share c peak e =
 
 -- no axis makes a share larger
 abbrev pub SharesFall : Type 0
-SharesFall = (share : ℕ) (c peak : ℤ) (ends : Option Ends) → share_of_tuple_axis share c peak ends ≤ share
+SharesFall = (share : ℕ) (c peak : ℤ) (ends : Option RegionEnds) → share_of_tuple_axis share c peak ends ≤ share
 
 abbrev pub RegionSharesFall : Type 0
-RegionSharesFall = (share : ℕ) (c peak : ℤ) (e : Ends) → share_of_region_axis share c peak e ≤ share
+RegionSharesFall = (share : ℕ) (c peak : ℤ) (e : RegionEnds) → share_of_region_axis share c peak e ≤ share
 
 -- nothing holds at the ends of a region
 abbrev pub NothingAtEnds : Type 0
-NothingAtEnds = (share : ℕ) (peak : ℤ) (e : Ends) → (share_between share e.start peak e ≡ 0) × (share_between share e.end peak e ≡ 0)
+NothingAtEnds = (share : ℕ) (peak : ℤ) (e : RegionEnds) → (share_between share e.start peak e ≡ 0) × (share_between share e.end peak e ≡ 0)
 
 -- all of a share stays at the peak
 abbrev pub AllAtPeak : Type 0
-AllAtPeak = (share : ℕ) (peak : ℤ) (ends : Option Ends) (e : Ends) → (share_of_tuple_axis share peak peak ends ≡ share)
+AllAtPeak = (share : ℕ) (peak : ℤ) (ends : Option RegionEnds) (e : RegionEnds) → (share_of_tuple_axis share peak peak ends ≡ share)
     × (share_of_region_axis share peak peak e ≡ share)
 
 -- worked values. A peak of 1, of 1/2 and of -1, without a region
-abbrev from_to : ℤ → ℤ → Ends
+abbrev from_to : ℤ → ℤ → RegionEnds
 from_to a b = record { start = a; end = b }
 
 to_a_peak_of_1 : map (λ c. share_of_tuple_axis 65536 c (pos 65536) None) (pos 65536 ∷ pos 32768 ∷ pos 21845 ∷ pos 0 ∷ negsuc 32767 ∷ [])
@@ -110,7 +110,7 @@ unfolding share_of_tuple_axis
 a_half_goes_up = refl
 
 -- a store's region across 0, one whose peak is past an end, and one without a peak have no effect
-without_effect : map (λ (e : Ends). share_of_region_axis 65536 (negsuc 32767) (pos 65536) e)
+without_effect : map (λ (e : RegionEnds). share_of_region_axis 65536 (negsuc 32767) (pos 65536) e)
     (from_to (negsuc 65535) (pos 65536) ∷ from_to (pos 0) (pos 65535) ∷ from_to (pos 65537) (pos 70000) ∷ [])
     ≡ 65536 ∷ 65536 ∷ 65536 ∷ []
 unfolding share_of_region_axis

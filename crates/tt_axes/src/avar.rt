@@ -4,7 +4,7 @@ ghost use Rattle.std.specs.Prelude.{◌≡◌, ◌+◌, ◌^◌, ◌<◌, ◌≤
 ghost use Rattle.tt_core.specs.Limits.{font_limit};
 ghost use Rattle.tt_axes.specs.Avar.{all_mapped, avar_axes, avar_of, between_pairs, f2dot14, from_of, is_avar, kept, list_end, list_place, mapped, pair_count, to_of};
 
-use crate::coordinates::Coordinates;
+use crate::coordinates::InstanceCoordinates;
 use crate::rounding::product_quotient;
 use crate::words::{long, word};
 use std::marker::Model;
@@ -12,7 +12,7 @@ use tt_core::{Dir, i16_at};
 
 /// A pair of a list, in 1/65536.
 #[derive(Clone, Copy)]
-struct Pair {
+struct MapPair {
     from: i32,
     to: i32,
     ghost from_near: { unsigned_abs from ≤ 131072 },
@@ -108,7 +108,7 @@ fn sum(a: i64, b: i32) -> i64
 }
 
 /// A coordinate between two pairs.
-fn between(coordinate: i32, low: Pair, high: Pair) -> i64
+fn between(coordinate: i32, low: MapPair, high: MapPair) -> i64
     requires { unsigned_abs coordinate ≤ 65536 }
     ensures { result ≡ between_pairs coordinate low.from high.from low.to high.to }
 {
@@ -142,13 +142,13 @@ impl<'a> Avar<'a> {
     }
 
     /// Pair j of the list at an offset.
-    fn pair(&self, at: usize, j: usize) -> Pair
+    fn pair(&self, at: usize, j: usize) -> MapPair
         requires fits { list_end self.now at ≤ length self.now }
         requires there { j < pair_count self.now at }
         ensures from { result.from ≡ from_of self.now at j }
         ensures to { result.to ≡ to_of self.now at j }
     {
-        Pair {
+        MapPair {
             from: f2dot14(self.table, at + 2 + 4 * j),
             to: f2dot14(self.table, at + 4 + 4 * j),
         }
@@ -174,11 +174,11 @@ impl<'a> Avar<'a> {
 
     /// The coordinates of all axes, each by its axis' list.
     #[tactic(auto, unfolding(crate::specs::Avar::all_mapped))]
-    pub fn mapped(&self, coordinates: &Coordinates) -> Coordinates
+    pub fn mapped(&self, coordinates: &InstanceCoordinates) -> InstanceCoordinates
         requires { length coordinates.now ≤ avar_axes self.now }
         ensures { result ≡ all_mapped self.now coordinates.now }
     {
-        let mut all = Coordinates::new();
+        let mut all = InstanceCoordinates::new();
         let mut at = 8;
         for i in 0..coordinates.count() {
             all.push(self.mapped_at(at, coordinates.at(i)));

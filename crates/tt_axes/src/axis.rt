@@ -8,7 +8,7 @@ use crate::share::Share;
 
 /// An axis of a variable font. Values are in 16.16.
 #[derive(Clone, Copy)]
-pub struct Axis {
+pub struct VariationAxis {
     pub tag: [u8; 4],
     pub least: i32,
     pub default: i32,
@@ -18,9 +18,9 @@ pub struct Axis {
     pub name: u16,
 }
 
-impl Axis {
+impl VariationAxis {
     /// The axis, or the same with the default alone where its values do not stand in order (profile).
-    pub(crate) fn in_order(self) -> Axis
+    pub(crate) fn in_order(self) -> VariationAxis
         ensures exact { result ≡ in_order self }
         ensures low { result.least ≤ℤ result.default }
         ensures high { result.default ≤ℤ result.greatest }
@@ -28,7 +28,7 @@ impl Axis {
         if self.least <= self.default && self.default <= self.greatest {
             return self;
         }
-        Axis {
+        VariationAxis {
             least: self.default,
             greatest: self.default,
             ..self

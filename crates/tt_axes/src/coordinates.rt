@@ -1,42 +1,45 @@
 //! The coordinates of an instance.
 
 ghost use Rattle.std.specs.Prelude.{◌≡◌, ◌++◌, ◌∷◌, [], ◌<◌, ◌≤◌, length, slice_get, Some, unsigned_abs};
+ghost use Rattle.tt_core.specs.Limits.{axis_limit};
 ghost use Rattle.tt_axes.specs.Coordinates.{are_zero, coordinate_at};
 
 use std::marker::Model;
+use tt_core::AXIS_LIMIT;
 
 /// The coordinates of an instance: one for each of at most 64 axes, in 1/65536, from -65536 to 65536. Clauses see a list.
 #[derive(Drop)]
-pub struct Coordinates {
-    values: [i32; 64],
+pub struct InstanceCoordinates {
+    values: [i32; AXIS_LIMIT],
     count: usize,
 }
 
-impl Model for Coordinates {
+impl Model for InstanceCoordinates {
     ghost use Rattle.std.specs.Prelude.{◌≡◌, ◌≤◌, List, ℤ, take, length, unsigned_abs};
     ghost use Rattle.std.specs.List.{All};
+    ghost use Rattle.tt_core.specs.Limits.{axis_limit};
 
     ghost Value = { List ℤ };
 
     ghost view = { λ c. take c.count c.values };
 
-    ghost invariant = { λ c. (c.count ≤ 64) × (length c.values ≡ 64) × All (λ v. unsigned_abs v ≤ 65536) (take c.count c.values) };
+    ghost invariant = { λ c. (c.count ≤ axis_limit) × (length c.values ≡ axis_limit) × All (λ v. unsigned_abs v ≤ 65536) (take c.count c.values) };
 }
 
-impl Coordinates {
+impl InstanceCoordinates {
     /// No coordinate.
-    pub fn new() -> Coordinates
+    pub fn new() -> InstanceCoordinates
         ensures { result ≡ [] }
     {
-        Coordinates {
-            values: [0; 64],
+        InstanceCoordinates {
+            values: [0; AXIS_LIMIT],
             count: 0,
         }
     }
 
     /// Appends a coordinate.
     pub fn push(&mut self, coordinate: i32)
-        requires room { length self.old < 64 }
+        requires room { length self.old < axis_limit }
         requires within { unsigned_abs coordinate ≤ 65536 }
         ensures { self.new ≡ self.old ++ coordinate ∷ [] }
     {
@@ -45,10 +48,10 @@ impl Coordinates {
     }
 
     /// A copy.
-    pub fn copy(&self) -> Coordinates
+    pub fn copy(&self) -> InstanceCoordinates
         ensures { result ≡ self.now }
     {
-        Coordinates {
+        InstanceCoordinates {
             values: self.values,
             count: self.count,
         }
@@ -57,7 +60,7 @@ impl Coordinates {
     /// How many axes there are.
     pub fn count(&self) -> usize
         ensures exact { result ≡ length self.now }
-        ensures bound { result ≤ 64 }
+        ensures bound { result ≤ axis_limit }
     {
         self.count
     }

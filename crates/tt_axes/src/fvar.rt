@@ -2,17 +2,17 @@
 
 ghost use Rattle.std.specs.Prelude.{◌≡◌, ◌+◌, ◌*◌, ◌<◌, ◌≤◌, ◌≤ℤ◌, length, IfOk, IfErr, OnOk};
 ghost use Rattle.tt_core.specs.Directory.{HasNo};
-ghost use Rattle.tt_core.specs.Limits.{font_limit};
+ghost use Rattle.tt_core.specs.Limits.{axis_limit, font_limit};
 ghost use Rattle.tt_core.specs.Outcomes.{Gives};
 ghost use Rattle.tt_axes.specs.Axes.{axis_of, axis_tag};
-ghost use Rattle.tt_axes.specs.Fvar.{axis_count, axis_limit, fvar_in, fvar_of, instance_count, instance_place, IsBadFvar, IsFvar, IsFvarDefect};
+ghost use Rattle.tt_axes.specs.Fvar.{axis_count, fvar_in, fvar_of, instance_count, instance_place, IsBadFvar, IsFvar, IsFvarDefect};
 ghost use Rattle.tt_axes.specs.Instances.{named_instance, place_in};
 
-use crate::axis::Axis;
+use crate::axis::VariationAxis;
 use crate::values::NamedInstance;
 use crate::words::{fixed, long, tag, word};
 use std::marker::Model;
-use tt_core::{Dir, Fault, Why};
+use tt_core::{AXIS_LIMIT, Dir, Fault, Why};
 
 pub(crate) const FVAR: [u8; 4] = *b"fvar";
 
@@ -49,7 +49,7 @@ fn test(table: &[u8]) -> Result<(), Fault>
         return Err(Fault::new(FVAR, 0, Why::VariationShape));
     }
     let axes = usize::from(word(table, 8));
-    if !(1..=64).contains(&axes) {
+    if !(1..=AXIS_LIMIT).contains(&axes) {
         return Err(Fault::new(FVAR, 8, Why::VariationShape));
     }
     if word(table, 10) != 20 {
@@ -99,14 +99,14 @@ impl<'a> Fvar<'a> {
 
     /// The axis with a number.
     #[tactic(auto, unfolding(crate::specs::Axes::axis_of))]
-    pub fn axis(&self, i: usize) -> Axis
+    pub fn axis(&self, i: usize) -> VariationAxis
         requires { i < axis_count self.now }
         ensures exact { result ≡ axis_of self.now i }
         ensures low { result.least ≤ℤ result.default }
         ensures high { result.default ≤ℤ result.greatest }
     {
         let at = usize::from(word(self.table, 4)) + 20 * i;
-        let axis = Axis {
+        let axis = VariationAxis {
             tag: tag(self.table, at),
             least: fixed(self.table, at + 4),
             default: fixed(self.table, at + 8),

@@ -1,15 +1,15 @@
 //! The coordinates of an instance that a job asks for. OpenType, "fvar: Font Variations Table".
 
 ghost use Rattle.std.specs.Prelude.{◌≡◌, ◌<◌, ◌≤◌, true, length, map, IfOk, IfErr, IfSome, OnOk, unsigned_abs};
-ghost use Rattle.std.specs.List.{list_all, range_with_len};
+ghost use Rattle.std.specs.List.{range_with_len};
 ghost use Rattle.tt_core.specs.Directory.{HasNo};
 ghost use Rattle.tt_core.specs.Outcomes.{Gives};
 ghost use Rattle.tt_axes.specs.Fvar.{axis_count, instance_count};
 ghost use Rattle.tt_axes.specs.InstanceCoordinates.{coordinates_of, IsInstanceDefect};
-ghost use Rattle.tt_axes.specs.Instances.{coordinate_of, coordinates_in, first_place, has_axis, has_instance, last_value, IsWrongInstance};
+ghost use Rattle.tt_axes.specs.Instances.{coordinate_of, coordinates_in, first_place, has_axis, has_instance, last_value, missing_axis, IsWrongInstance};
 
 use crate::avar::Avar;
-use crate::coordinates::Coordinates;
+use crate::coordinates::InstanceCoordinates;
 use crate::fvar::{FVAR, Fvar};
 use crate::values::AxisValue;
 use tt_core::{Dir, Fault, Why};
@@ -41,14 +41,19 @@ impl<'a> Fvar<'a> {
         false
     }
 
-    /// Whether each value has an axis.
-    fn has_axes(&self, values: &[AxisValue]) -> bool
-        ensures { result ≡ list_all (has_axis self.now) values.now }
+    /// The tag of the first value without an axis.
+    pub fn missing_axis(&self, values: &[AxisValue]) -> Option<[u8; 4]>
+        ensures { result ≡ missing_axis self.now values.now }
     {
-        values.iter().all(|value| self.has_axis(*value))
+        for value in values {
+            if !self.has_axis(*value) {
+                return Some(value.tag);
+            }
+        }
+        None
     }
 
-    /// Whether a named instance is there, if one is asked for.
+    /// Whether a named instance is there, if a number is given.
     fn has_instance(&self, named: Option<u32>) -> bool
         ensures exact { result ≡ has_instance self.now named }
         ensures there { result ≡ true → IfSome named (λ k. k < instance_count self.now) }
@@ -84,12 +89,12 @@ impl<'a> Fvar<'a> {
     }
 
     /// The coordinates on all axes.
-    fn all_coordinates(&self, named: Option<u32>, values: &[AxisValue]) -> Coordinates
+    fn all_coordinates(&self, named: Option<u32>, values: &[AxisValue]) -> InstanceCoordinates
         requires { IfSome named (λ k. k < instance_count self.now) }
         ensures exact { result ≡ map (coordinate_of self.now named values.now) (range_with_len 0 (axis_count self.now)) }
         ensures count { length result ≡ axis_count self.now }
     {
-        let mut coordinates = Coordinates::new();
+        let mut coordinates = InstanceCoordinates::new();
         for i in 0..self.axis_count() {
             coordinates.push(self.coordinate(named, values, i));
         }
@@ -103,7 +108,7 @@ impl<'a> Fvar<'a> {
         &self,
         named: Option<u32>,
         values: &[AxisValue],
-    ) -> Result<Coordinates, Fault>
+    ) -> Result<InstanceCoordinates, Fault>
         ensures exact { Gives (λ c. c) result (coordinates_in self.now named values.now) }
         ensures count { IfOk result (λ c. length c ≡ axis_count self.now) }
         ensures sound { OnOk result (HasNo (IsWrongInstance self.now named values.now)) }
@@ -112,7 +117,7 @@ impl<'a> Fvar<'a> {
         if !self.has_instance(named) {
             return Err(Fault::new(FVAR, 12, Why::NoInstance));
         }
-        if !self.has_axes(values) {
+        if self.missing_axis(values).is_some() {
             return Err(Fault::new(FVAR, 8, Why::NoAxis));
         }
         Ok(self.all_coordinates(named, values))
@@ -126,7 +131,7 @@ pub fn coordinates_of(
     dir: &Dir,
     named: Option<u32>,
     values: &[AxisValue],
-) -> Result<Coordinates, Fault>
+) -> Result<InstanceCoordinates, Fault>
     ensures exact { Gives (λ c. c) result (coordinates_of dir.now named values.now) }
     ensures sound { OnOk result (HasNo (IsInstanceDefect dir.now named values.now)) }
     ensures fault { IfErr result (IsInstanceDefect dir.now named values.now) }

@@ -3,6 +3,7 @@
 
 mod avar;
 mod axis;
+mod axis_words;
 mod coordinates;
 mod fvar;
 mod instance;
@@ -10,15 +11,18 @@ pub mod laws;
 mod region;
 mod rounding;
 mod share;
+mod shown;
 mod values;
 mod words;
 
 pub use avar::Avar;
-pub use axis::Axis;
-pub use coordinates::Coordinates;
+pub use axis::VariationAxis;
+pub use axis_words::read_axis_values;
+pub use coordinates::InstanceCoordinates;
 pub use fvar::Fvar;
 pub use instance::coordinates_of;
-pub use region::Ends;
+pub use region::RegionEnds;
 pub use rounding::{product_quotient, sixty_fourths, whole_units};
 pub use share::Share;
+pub use shown::value_text;
 pub use values::{AxisValue, NamedInstance};

@@ -7,7 +7,7 @@ use crate::share::Share;
 
 /// The ends of a region on one axis, as coordinates in 1/65536.
 #[derive(Clone, Copy)]
-pub struct Ends {
+pub struct RegionEnds {
     pub start: i32,
     pub end: i32,
 }
@@ -27,7 +27,7 @@ pub(crate) fn portion(share: Share, part: u32, whole: u32) -> Share
 }
 
 /// The share in a region: nothing at its ends, and all at its peak.
-fn share_between(share: Share, coordinate: i32, peak: i32, ends: Ends) -> Share
+fn share_between(share: Share, coordinate: i32, peak: i32, ends: RegionEnds) -> Share
     ensures exact { result.parts ≡ share_between share.parts coordinate peak ends }
     ensures less { result.parts ≤ share.parts }
 {
@@ -72,7 +72,7 @@ impl Share {
     /// What an axis with a coordinate leaves of a tuple's share. A tuple has a peak on the axis, and may have a region
     /// of its own. Coordinates are in 1/65536.
     #[tactic(auto, unfolding(crate::specs::Shares::share_of_tuple_axis))]
-    pub fn on_tuple_axis(self, coordinate: i32, peak: i32, ends: Option<Ends>) -> Share
+    pub fn on_tuple_axis(self, coordinate: i32, peak: i32, ends: Option<RegionEnds>) -> Share
         ensures exact { result.parts ≡ share_of_tuple_axis self.parts coordinate peak ends }
         ensures less { result.parts ≤ self.parts }
     {
@@ -93,7 +93,7 @@ impl Share {
 
     /// What an axis with a coordinate leaves of the share of a region in a store. Coordinates are in 1/65536.
     #[tactic(auto, unfolding(crate::specs::Shares::share_of_region_axis))]
-    pub fn on_region_axis(self, coordinate: i32, peak: i32, ends: Ends) -> Share
+    pub fn on_region_axis(self, coordinate: i32, peak: i32, ends: RegionEnds) -> Share
         ensures exact { result.parts ≡ share_of_region_axis self.parts coordinate peak ends }
         ensures less { result.parts ≤ self.parts }
     {
@@ -105,7 +105,7 @@ impl Share {
 }
 
 /// Whether a region of a store has an effect.
-fn has_effect(peak: i32, ends: Ends) -> bool
+fn has_effect(peak: i32, ends: RegionEnds) -> bool
     ensures { result ≡ has_effect peak ends }
 {
     let crosses = ends.start < 0 && 0 < ends.end;

@@ -7,7 +7,6 @@ pub mod ListedCodes
 pub mod Near
 pub mod Nothing
 pub mod Padded
-pub mod Pieces
 pub mod Reaching
 pub mod ReadBack
 pub mod Refused

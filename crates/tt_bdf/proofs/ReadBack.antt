@@ -6,7 +6,7 @@ use Rattle.std.proofs.lemmas.Bool.{cases_lt}
 use Rattle.std.proofs.lemmas.Bool.Decides.{nat_tests}
 use Rattle.std.proofs.lemmas.List.Elements.{All-drop, All-head, All-tail, All-take}
 use Rattle.tt_bdf.specs.Bitmap.{byte_digits, row_at, row_text}
-use Rattle.tt_bdf.specs.Ranges.{pieces}
+use Rattle.tt_core.specs.Cutting.{pieces}
 use Rattle.tt_bdf.specs.Reading.{RowsReadBack, bytes_of_line, digit_value, rows_in}
 
 -- a digit has its value, and is no line feed

@@ -3,28 +3,11 @@
 -- hexadecimal digits of either case, with or without `U+` before them.
 use Rattle.std.specs.Prelude.{◌≡◌, refl, ℕ, ◌+◌, ◌-◌, ◌*◌, ◌≤◌, ◌&&◌, ◌||◌, ◌==◌, nat_lt, nat_le, if◌then◌else◌, List, [], ◌∷◌, length, drop, slice_index, codes, Option, Some, None}
 use Rattle.tt_bdf.specs.declared.range.CodeRange.{CodeRange}
+use Rattle.tt_core.specs.Cutting.{after, all_read, before, pieces}
 
 -- the greatest code point
 abbrev pub last_code : ℕ
 last_code = 0x10FFFF
-
--- what is before the first separator, and what is after, if there is a separator
-abbrev pub before : ℕ → List ℕ → List ℕ
-before sep [] = []
-before sep (x ∷ xs) = if x == sep then [] else x ∷ before sep xs
-
-abbrev pub after : ℕ → List ℕ → Option (List ℕ)
-after sep [] = None
-after sep (x ∷ xs) = if x == sep then Some xs else after sep xs
-
--- the pieces between separators
-abbrev pub onto_first : ℕ → List (List ℕ) → List (List ℕ)
-onto_first x [] = (x ∷ []) ∷ []
-onto_first x (p ∷ ps) = (x ∷ p) ∷ ps
-
-abbrev pub pieces : ℕ → List ℕ → List (List ℕ)
-pieces sep [] = [] ∷ []
-pieces sep (x ∷ xs) = if x == sep then [] ∷ pieces sep xs else onto_first x (pieces sep xs)
 
 -- the value of a hexadecimal digit
 abbrev pub hex_value : ℕ → Option ℕ
@@ -68,18 +51,9 @@ range_by t (Some u) = between (code_of t) (code_of u)
 abbrev pub range_of : List ℕ → Option CodeRange
 range_of t = range_by (before 45 t) (after 45 t)
 
-abbrev pub onto_ranges : Option CodeRange → Option (List CodeRange) → Option (List CodeRange)
-onto_ranges None rs = None
-onto_ranges (Some r) None = None
-onto_ranges (Some r) (Some rs) = Some (r ∷ rs)
-
-abbrev pub all_ranges : List (List ℕ) → Option (List CodeRange)
-all_ranges [] = Some []
-all_ranges (t ∷ ts) = onto_ranges (range_of t) (all_ranges ts)
-
 -- the ranges that a text asks for, if it is of the right form
 unfoldable pub ranges_of : List ℕ → Option (List CodeRange)
-ranges_of t = all_ranges (pieces 44 t)
+ranges_of t = all_read range_of (pieces 44 t)
 
 pub record IsCodeRange (r : CodeRange) : Type 0 where
   pub order : r.first ≤ r.last

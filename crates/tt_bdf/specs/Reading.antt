@@ -3,7 +3,8 @@
 use Rattle.std.specs.Prelude.{◌≡◌, refl, ℕ, ◌+◌, ◌*◌, ◌<◌, List, [], ◌∷◌, ◌++◌, All, codes, map, unwrap_or}
 use Rattle.std.specs.List.{range_with_len}
 use Rattle.tt_bdf.specs.Bitmap.{row_at, rows_text}
-use Rattle.tt_bdf.specs.Ranges.{hex_value, pieces}
+use Rattle.tt_core.specs.Cutting.{pieces}
+use Rattle.tt_bdf.specs.Ranges.{hex_value}
 
 -- the bytes of a line
 abbrev pub digit_value : ℕ → ℕ

@@ -1,9 +1,10 @@
 //! The characters that `--range` asks for, as ranges of code points.
 
-ghost use Rattle.std.specs.Prelude.{◌≡◌, ◌==◌, ◌<◌, ◌≤◌, length, slice_index, option_copied, option_map, All, IfOk, IfSome};
-ghost use Rattle.tt_bdf.specs.Ranges.{IsCodeRange, after, before, between, by_digits, code_of, hex_value, last_code, range_of, ranges_of, unmarked, with_digit};
+ghost use Rattle.std.specs.Prelude.{◌≡◌, ◌≤◌, option_map, All, IfOk, IfSome};
+ghost use Rattle.tt_bdf.specs.Ranges.{IsCodeRange, between, by_digits, code_of, hex_value, last_code, range_of, ranges_of, unmarked, with_digit};
 
 use std::alloc::{AllocError, Global};
+use tt_core::cut;
 
 /// The greatest code point.
 const LAST_CODE: u32 = 0x10_FFFF;
@@ -13,27 +14,6 @@ const LAST_CODE: u32 = 0x10_FFFF;
 pub struct CodeRange {
     pub first: u32,
     pub last: u32,
-}
-
-/// Whether the byte at a place of a text is this one.
-fn is_at(text: &[u8], i: usize, byte: u8) -> bool
-    requires { i < length text.now }
-    ensures { result ≡ (slice_index text.now i == byte) }
-{
-    text[i] == byte
-}
-
-/// What is before the first separator of a text, and what is after. None: the text has no separator.
-fn cut(separator: u8, text: &[u8]) -> (&[u8], Option<&[u8]>)
-    ensures before { result.0.now ≡ before separator text.now }
-    ensures after { option_copied result.1 ≡ after separator text.now }
-{
-    for i in 0..text.len() {
-        if is_at(text, i, separator) {
-            return (&text[..i], Some(&text[i + 1..]));
-        }
-    }
-    (text, None)
 }
 
 /// The value of a hexadecimal digit of either case.

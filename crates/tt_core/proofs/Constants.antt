@@ -1,7 +1,7 @@
 -- The code's limits are those of the specifications.
 use Rattle.std.proofs.Common.{◌≡◌, pos, refl}
-use Rattle.tt_core.specs.Limits.{font_limit, text_limit, size_limit, margin_limit, width_limit, height_limit, point_limit, component_limit, level_limit, best_level_limit, coordinate_limit, step_limit, work_limit, point_work_limit, crossing_limit, call_limit, stack_limit}
-use Rattle.tt_core.specs.declared.limits.TheConstants.{FONT_LIMIT, TEXT_LIMIT, SIZE_LIMIT, MARGIN_LIMIT, WIDTH_LIMIT, HEIGHT_LIMIT, POINT_LIMIT, COMPONENT_LIMIT, LEVEL_LIMIT, BEST_LEVEL_LIMIT, COORDINATE_LIMIT, STEP_LIMIT, WORK_LIMIT, POINT_WORK_LIMIT, CROSSING_LIMIT, CALL_LIMIT, STACK_LIMIT}
+use Rattle.tt_core.specs.Limits.{font_limit, text_limit, size_limit, margin_limit, width_limit, height_limit, point_limit, component_limit, level_limit, best_level_limit, coordinate_limit, step_limit, work_limit, point_work_limit, crossing_limit, axis_limit, call_limit, stack_limit}
+use Rattle.tt_core.specs.declared.limits.TheConstants.{FONT_LIMIT, TEXT_LIMIT, SIZE_LIMIT, MARGIN_LIMIT, WIDTH_LIMIT, HEIGHT_LIMIT, POINT_LIMIT, COMPONENT_LIMIT, LEVEL_LIMIT, BEST_LEVEL_LIMIT, COORDINATE_LIMIT, STEP_LIMIT, WORK_LIMIT, POINT_WORK_LIMIT, CROSSING_LIMIT, AXIS_LIMIT, CALL_LIMIT, STACK_LIMIT}
 
 font_is : FONT_LIMIT ≡ font_limit
 font_is = refl
@@ -47,6 +47,9 @@ point_work_is = refl
 
 crossings_are : CROSSING_LIMIT ≡ crossing_limit
 crossings_are = refl
+
+axes_are : AXIS_LIMIT ≡ axis_limit
+axes_are = refl
 
 calls_are : CALL_LIMIT ≡ call_limit
 calls_are = refl

@@ -1,6 +1,7 @@
 pub mod Bits
 pub mod Chains
 pub mod Collections
+pub mod Cutting
 pub mod Device
 pub mod Directory
 pub mod Faults

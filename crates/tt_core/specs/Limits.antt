@@ -61,6 +61,10 @@ point_work_limit = 1000000
 abbrev pub crossing_limit : ℕ
 crossing_limit = 10000000
 
+-- axes of a variable font
+abbrev pub axis_limit : ℕ
+axis_limit = 64
+
 -- open calls of functions
 abbrev pub call_limit : ℕ
 call_limit = 64

@@ -48,6 +48,9 @@ pub const POINT_WORK_LIMIT: u64 = 1_000_000;
 /// Crossings of a job's glyphs, if the job's work is bounded.
 pub const CROSSING_LIMIT: u64 = 10_000_000;
 
+/// Axes of a variable font.
+pub const AXIS_LIMIT: usize = 64;
+
 /// Open calls of functions.
 pub const CALL_LIMIT: usize = 64;
 

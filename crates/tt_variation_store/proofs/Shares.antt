@@ -1,7 +1,7 @@
 -- The share of a region falls from axis to axis.
 use Rattle.std.proofs.Common.{◌≡◌, ℕ, zero, suc, ◌+◌, ◌-◌, ◌<◌, ◌≤◌, List, length, ℤ, Bool, true, false, refl, arith, zero-add}
 use Rattle.std.specs.Prelude.{nat_lt, if◌then◌else◌}
-use Rattle.tt_axes.specs.declared.region.Ends.{Ends}
+use Rattle.tt_axes.specs.declared.region.RegionEnds.{RegionEnds}
 use Rattle.tt_axes.specs.Shares.{whole_share, share_of_region_axis, RegionSharesFall}
 use Rattle.tt_variation_store.specs.Laws.{SharesAreParts, WholeAtPeaks, OneAxisEnds}
 use Rattle.tt_variation_store.specs.Regions.{RegionList, axis_place, coordinate_in, ends_in, region_count, share_after, region_share}
@@ -50,7 +50,7 @@ parts fall l region coordinates =
     part-by (nat_lt region (region_count l)) (share_after l region coordinates n) whole_share (rw all least)
 
 -- the first axes, each at its peak, leave the whole
-whole-after : ((share : ℕ) (peak : ℤ) (e : Ends) → share_of_region_axis share peak peak e ≡ share)
+whole-after : ((share : ℕ) (peak : ℤ) (e : RegionEnds) → share_of_region_axis share peak peak e ≡ share)
     → (l : RegionList) (region : ℕ) (coordinates : List ℤ) (n : ℕ)
     → ((axis : ℕ) → axis < n → coordinate_at coordinates axis ≡ coordinate_in l.table (axis_place l region axis + 2))
     → share_after l region coordinates n ≡ whole_share
@@ -60,7 +60,7 @@ whole-after stays l region coordinates (suc n) at =
     let before = whole-after stays l region coordinates n (λ axis below. at axis (omega (arith, below))) in
     rw (here, stays) before
 
-pub peaks : ((share : ℕ) (peak : ℤ) (e : Ends) → share_of_region_axis share peak peak e ≡ share) → WholeAtPeaks
+pub peaks : ((share : ℕ) (peak : ℤ) (e : RegionEnds) → share_of_region_axis share peak peak e ≡ share) → WholeAtPeaks
 peaks stays l region coordinates at = whole-after stays l region coordinates (length coordinates) at
 
 either-0 : (b : Bool) (n none : ℕ) → n ≡ none → (if b then n else none) ≡ none

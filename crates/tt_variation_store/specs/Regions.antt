@@ -3,7 +3,7 @@
 use Rattle.std.specs.Prelude.{ℕ, zero, suc, ◌+◌, ◌*◌, Bool, ◌&&◌, ◌==◌, nat_lt, nat_le, if◌then◌else◌, List, length, Option, Some, None, ℤ, pos, ◌*ℤ◌}
 use Rattle.tt_axes.specs.Coordinates.{coordinate_at}
 use Rattle.tt_axes.specs.Shares.{whole_share, share_of_region_axis}
-use Rattle.tt_axes.specs.declared.region.Ends.{Ends}
+use Rattle.tt_axes.specs.declared.region.RegionEnds.{RegionEnds}
 use Rattle.tt_variation_store.specs.Numbers.{word, signed}
 
 -- a list of regions: the bytes of the store's table, and an offset in the table
@@ -33,7 +33,7 @@ axis_place l region axis = l.at + 4 + 6 * (axis_count l * region + axis)
 abbrev pub coordinate_in : List ℕ → ℕ → ℤ
 coordinate_in table at = pos 4 *ℤ signed table at 2
 
-abbrev pub ends_in : List ℕ → ℕ → Ends
+abbrev pub ends_in : List ℕ → ℕ → RegionEnds
 ends_in table at = record { start = coordinate_in table at; end = coordinate_in table (at + 4) }
 
 -- a share after the axis at an offset

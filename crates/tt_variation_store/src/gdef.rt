@@ -8,7 +8,7 @@ ghost use Rattle.tt_variation_store.specs.Gdef.{gdef_store_of, variation_index, 
 use crate::index::{DeltaSetIndex, index_at};
 use crate::numbers::{kept_int16, long, word};
 use crate::store::VariationStore;
-use tt_axes::Coordinates;
+use tt_axes::InstanceCoordinates;
 
 /// The format of a VariationIndex table.
 const VARIATION_INDEX: usize = 0x8000;
@@ -46,7 +46,12 @@ pub fn variation_index(table: &[u8], parent: usize, offset: usize) -> Option<Del
 
 impl<'a> VariationStore<'a> {
     /// A value of GPOS at an instance, in font units: with indexes the value and their delta, kept an int16 (profile).
-    fn value(&self, value: i32, index: Option<DeltaSetIndex>, coordinates: &Coordinates) -> i32
+    fn value(
+        &self,
+        value: i32,
+        index: Option<DeltaSetIndex>,
+        coordinates: &InstanceCoordinates,
+    ) -> i32
         requires { unsigned_abs value ≤ 32768 }
         ensures exact { result ≡ value_by_index self.now value index coordinates.now }
         ensures bound { unsigned_abs result ≤ 32768 }
@@ -67,7 +72,7 @@ pub fn pair_value<'a>(
     store: &Option<VariationStore<'a>>,
     value: i32,
     index: Option<DeltaSetIndex>,
-    coordinates: &Coordinates,
+    coordinates: &InstanceCoordinates,
 ) -> i32
     requires { unsigned_abs value ≤ 32768 }
     ensures exact { result ≡ pair_value store.now value index coordinates.now }

@@ -8,7 +8,7 @@ use crate::index_map::index_of;
 use crate::numbers::{kept_uint16, long, word};
 use crate::store::VariationStore;
 use std::marker::Model;
-use tt_axes::Coordinates;
+use tt_axes::InstanceCoordinates;
 
 /// A table HVAR that is there. Clauses see its store.
 #[derive(Drop)]
@@ -62,7 +62,7 @@ impl<'a> Hvar<'a> {
 
     /// A glyph's advance at an instance, in font units: the advance that hmtx has, and the glyph's delta, kept within 0
     /// to 65535 (profile).
-    pub fn advance(&self, glyph: u16, advance: u16, coordinates: &Coordinates) -> u16
+    pub fn advance(&self, glyph: u16, advance: u16, coordinates: &InstanceCoordinates) -> u16
         ensures { result ≡ advance_of self.now glyph advance coordinates.now }
     {
         let index = index_of(self.store.table(), self.map, usize::from(glyph));

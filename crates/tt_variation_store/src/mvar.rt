@@ -9,7 +9,7 @@ use crate::index::index_at;
 use crate::numbers::{kept_int16, long, product, word};
 use crate::store::VariationStore;
 use std::marker::Model;
-use tt_axes::Coordinates;
+use tt_axes::InstanceCoordinates;
 
 /// A height of hhea that a record of MVAR moves.
 #[derive(Clone, Copy)]
@@ -98,7 +98,7 @@ impl<'a> Mvar<'a> {
     }
 
     /// How much higher a height is at an instance, in font units.
-    fn delta(&self, height: Height, coordinates: &Coordinates) -> i64
+    fn delta(&self, height: Height, coordinates: &InstanceCoordinates) -> i64
         ensures exact { result ≡ record_delta self.now coordinates.now (record_of self.now.table height) }
         ensures bound { unsigned_abs result ≤ 2 ^ 40 }
     {
@@ -114,7 +114,7 @@ impl<'a> Mvar<'a> {
 
     /// A height at an instance, in font units: the height that hhea has, and the delta of its first record, kept an int16
     /// (profile).
-    pub fn height(&self, height: Height, units: i16, coordinates: &Coordinates) -> i16
+    pub fn height(&self, height: Height, units: i16, coordinates: &InstanceCoordinates) -> i16
         ensures { result ≡ height_of self.now height units coordinates.now }
     {
         kept_int16(i64::from(units) + self.delta(height, coordinates))

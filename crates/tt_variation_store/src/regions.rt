@@ -7,7 +7,7 @@ ghost use Rattle.tt_variation_store.specs.Regions.{RegionList, if_whole, axis_pl
 
 use crate::numbers::{product, signed_word, word};
 use std::marker::Model;
-use tt_axes::{Coordinates, Ends, Share};
+use tt_axes::{InstanceCoordinates, RegionEnds, Share};
 
 /// The list of regions of a store that is there. Clauses see the bytes of the store's table, and the offset in the table.
 #[derive(Drop)]
@@ -93,7 +93,7 @@ impl<'a> RegionList<'a> {
         ensures less { result.parts ≤ share.parts }
     {
         let at = self.axis_place(region, axis);
-        let ends = Ends {
+        let ends = RegionEnds {
             start: coordinate_at(self.table, at),
             end: coordinate_at(self.table, at + 4),
         };
@@ -101,7 +101,7 @@ impl<'a> RegionList<'a> {
     }
 
     /// How much of a region's deltas holds at an instance. Of a region that isn't there nothing holds (profile).
-    pub(crate) fn share(&self, region: usize, coordinates: &Coordinates) -> Share
+    pub(crate) fn share(&self, region: usize, coordinates: &InstanceCoordinates) -> Share
         requires { region < 65536 }
         ensures { result.parts ≡ region_share self.now region coordinates.now }
     {

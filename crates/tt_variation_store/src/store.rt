@@ -11,7 +11,7 @@ use crate::index::DeltaSetIndex;
 use crate::numbers::{long, word};
 use crate::regions::RegionList;
 use std::marker::Model;
-use tt_axes::{Coordinates, Share, whole_units};
+use tt_axes::{InstanceCoordinates, Share, whole_units};
 
 /// An item variation store that is there. Clauses see the bytes of its table, and its offset in the table.
 #[derive(Drop)]
@@ -102,33 +102,39 @@ impl<'a> VariationStore<'a> {
     }
 
     /// Number i of the row at an offset, at the instance, in 1/65536 font unit.
-    fn scaled_delta(&self, data: &ItemData, row: usize, i: usize, coordinates: &Coordinates) -> i64
+    fn scaled_delta(
+        &self,
+        items: &ItemData,
+        row: usize,
+        i: usize,
+        coordinates: &InstanceCoordinates,
+    ) -> i64
         requires row { row ≤ font_limit }
         requires i { i < 65536 }
-        ensures exact { result ≡ scaled_delta (region_list self.now) coordinates.now data.now row i }
+        ensures exact { result ≡ scaled_delta (region_list self.now) coordinates.now items.now row i }
         ensures bound { unsigned_abs result ≤ 2 ^ 47 }
     {
-        let share = self.regions.share(data.region(i), coordinates);
-        scaled(data.delta(row, i), share)
+        let share = self.regions.share(items.region(i), coordinates);
+        scaled(items.delta(row, i), share)
     }
 
     /// The sum of the numbers of the row at an offset, at the instance, in 1/65536 font unit.
-    fn sum(&self, data: &ItemData, row: usize, coordinates: &Coordinates) -> i64
+    fn sum(&self, items: &ItemData, row: usize, coordinates: &InstanceCoordinates) -> i64
         requires row { row ≤ font_limit }
-        requires few { index_count data.now ≤ most_regions }
-        ensures exact { result ≡ sum_of_first (region_list self.now) coordinates.now data.now row (index_count data.now) }
+        requires few { index_count items.now ≤ most_regions }
+        ensures exact { result ≡ sum_of_first (region_list self.now) coordinates.now items.now row (index_count items.now) }
         ensures bound { unsigned_abs result ≤ 2 ^ 56 }
     {
         let mut sum = 0;
-        for i in 0..data.regions() {
-            sum += self.scaled_delta(data, row, i, coordinates);
+        for i in 0..items.regions() {
+            sum += self.scaled_delta(items, row, i, coordinates);
         }
         sum
     }
 
     /// The delta of a row at an instance, in 1/65536 font unit. A row that isn't there has a delta of 0 (profile).
     #[tactic(auto, unfolding(crate::specs::Deltas::fine_delta))]
-    fn fine_delta(&self, index: DeltaSetIndex, coordinates: &Coordinates) -> i64
+    fn fine_delta(&self, index: DeltaSetIndex, coordinates: &InstanceCoordinates) -> i64
         ensures exact { result ≡ fine_delta self.now index coordinates.now }
         ensures bound { unsigned_abs result ≤ 2 ^ 56 }
     {
@@ -142,7 +148,7 @@ impl<'a> VariationStore<'a> {
     }
 
     /// The delta of a row at an instance, in font units. A row that isn't there has a delta of 0 (profile).
-    pub fn delta(&self, index: DeltaSetIndex, coordinates: &Coordinates) -> i64
+    pub fn delta(&self, index: DeltaSetIndex, coordinates: &InstanceCoordinates) -> i64
         ensures exact { result ≡ delta self.now index coordinates.now }
         ensures bound { unsigned_abs result ≤ 2 ^ 40 }
     {

@@ -8,8 +8,8 @@ use Rattle.tt_variation_store.proofs.store.VariationStore.sum.Given as goal
 -- the sum of the numbers so far
 abbrev pub invariant-loop-i : goal.invariant-loop-i
 invariant-loop-i l = record {
-  so_far : l.sum ≡ sum_of_first (region_list l.self) l.coordinates l.data l.row l.i;
-  all : l.i-end ≡ index_count l.data;
+  so_far : l.sum ≡ sum_of_first (region_list l.self) l.coordinates l.items l.row l.i;
+  all : l.i-end ≡ index_count l.items;
   few : l.i-end ≤ 512;
   bound : unsigned_abs l.sum ≤ 2 ^ 47 * l.i;
 }

@@ -1,0 +1,4 @@
+pub mod Added
+pub mod Chained
+pub mod Listed
+pub mod Moved

@@ -1,0 +1,9 @@
+pub mod Along
+pub mod ControlValues
+pub mod Examples
+pub mod Glyphs
+pub mod Gvar
+pub mod Laws
+pub mod Units
+pub mod Views
+pub mod Work

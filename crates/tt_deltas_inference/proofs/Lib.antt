@@ -1,0 +1,13 @@
+pub mod ByNumber
+pub mod Choices
+pub mod Ends
+pub mod Filled
+pub mod Named
+pub mod Near
+pub mod Passes
+pub mod Proportions
+pub mod Ranges
+pub mod Runs
+pub mod Swept
+pub mod Whole
+pub mod Within

@@ -1,0 +1,4 @@
+pub mod Bounds
+pub mod Inference
+pub mod Laws
+pub mod Sweeps

@@ -1,0 +1,7 @@
+pub mod Axes
+pub mod Chains
+pub mod DeltaRuns
+pub mod NumberRuns
+pub mod Rising
+pub mod Steps
+pub mod Whole

@@ -1,0 +1,10 @@
+pub mod Bytes
+pub mod Deltas
+pub mod Examples
+pub mod Headers
+pub mod Laws
+pub mod PointNumbers
+pub mod Regions
+pub mod Sources
+pub mod Tuples
+pub mod Views
