@@ -53,7 +53,7 @@
  * tt_draw_lines reports, once for the call: the way to fit, size, margin; the font's size, the place of the face, its
  * tables; lines_room. Then, line by line: the line's ends (67), the work of the lines before it (65), UTF-8, the text's
  * length, and all that follows above. So where the font is damaged and a line is not UTF-8, it answers TT_FONT, and
- * tt_draw TT_NOT_UTF8.
+ * tt_draw TT_NOT_UTF8. tt_lines_room reports the same, but looks at no room.
  *
  * Cost: tt_faces, tt_open and tt_map, with a face too, and tt_strike read tables alone. So do tt_layout and tt_pens
  * without TT_BEST; with TT_BEST they cost what tt_measure does, less the ink. tt_measure, tt_characters, tt_draw and
@@ -61,9 +61,9 @@
  * instructions. This is so even where the room is too small. tt_glyphs runs the two programs once and fits each glyph
  * of its list once, also where the room for the rows is too small: a list costs what a text of its glyphs does.
  * tt_draw_lines runs the two programs once, and fits no glyph that is cached: a label of 16 letters then takes some
- * 30,000 instructions. With keep 0 each line fits its glyphs anew, for up to a million instructions. With kern a call
- * reads at most 10,000 numbers of GPOS and kern when it opens the font. For each pair of neighbouring glyphs it reads
- * at most 5,120 numbers, up to three times; real fonts need some 50.
+ * 30,000 instructions. tt_lines_room costs the same, less the rows. With keep 0 each line fits its glyphs anew, for up
+ * to a million instructions. With kern a call reads at most 10,000 numbers of GPOS and kern when it opens the font.
+ * For each pair of neighbouring glyphs it reads at most 5,120 numbers, up to three times; real fonts need some 50.
  */
 #ifndef TT_RENDER_H
 #define TT_RENDER_H
@@ -97,7 +97,7 @@ struct tt_answer {
     uint8_t table[4]; /* the tag of the table that has the defect, "file" for the directory; no zero at the end */
     uint32_t offset;  /* the defect's offset in it, in bytes */
     uint64_t bytes;   /* the bytes written or needed; 0 for entries */
-    uint64_t count;   /* the rows, entries or lines written, or the rows or entries needed */
+    uint64_t count;   /* the rows, entries or lines written or needed */
 };
 
 /* The figures of a font, in font units except the number of glyphs. */
@@ -131,9 +131,10 @@ enum {
  * rounded makes the rise and the depth of a line the ascent and the descent, each rounded to the nearest row, a half up.
  * Else each is rounded up. Pictures of box drawing characters then join where they are set one below the other.
  *
- * tt_draw, tt_draw_band, tt_draw_lines, tt_measure, tt_characters, tt_layout and tt_pens look at both: widths, pens and
- * advances follow kern; heights, base lines, rise, depth and step follow rounded. tt_strike has no text, and looks at
- * rounded. tt_glyphs looks at neither. tt_open, tt_map and the calls with a face tell the font's own figures.
+ * tt_draw, tt_draw_band, tt_draw_lines, tt_lines_room, tt_measure, tt_characters, tt_layout and tt_pens look at both:
+ * widths, pens and advances follow kern; heights, base lines, rise, depth and step follow rounded. tt_strike has no
+ * text, and looks at rounded. tt_glyphs looks at neither. tt_open, tt_map and the calls with a face tell the font's
+ * own figures.
  */
 struct tt_job {
     uint32_t size;    /* pixels per em, 1 to 300 */
@@ -360,14 +361,27 @@ uint32_t tt_draw_band(const uint8_t *font, size_t font_bytes, const uint8_t *tex
  * With TT_BEST the lines of a call share a budget. A line after which no budget is left is still drawn; the next one is
  * refused with number 65.
  *
- * A refused line stops the call: count lines before it are drawn, in bytes bytes of rows, and all memory after these is
- * unchanged. With TT_ROOM bytes is the room that these lines and the next one need. Where ends[i] is less than the end
- * before it or more than text_bytes, the line is refused with number 67. Where the way to fit, size, margin and font
- * are accepted and lines_room is less than ends_count, nothing is drawn, with TT_ROOM, bytes 0 and count ends_count.
+ * A refused line stops the call: count lines before it are drawn, in bytes bytes of rows, and all memory after these
+ * is unchanged. With TT_ROOM bytes is the room that these lines and the next one need; tt_lines_room tells that of all
+ * lines. Where ends[i] is less than the end before it or more than text_bytes, the line is refused with number 67.
+ * Where the way to fit, size, margin and font are accepted and lines_room is less than ends_count, nothing is drawn,
+ * with TT_ROOM, bytes 0 and count ends_count.
  */
 uint32_t tt_draw_lines(const uint8_t *font, size_t font_bytes, const uint8_t *texts, size_t text_bytes,
                        const uint64_t *ends, size_t ends_count, const struct tt_job *job, size_t keep, uint8_t *rows,
                        size_t room, struct tt_line *lines, size_t lines_room, struct tt_answer *answer);
+
+/*
+ * The room that tt_draw_lines needs for the rows of all lines, before there is any. Job and lines are as there. bytes
+ * is the exact number: a room of so many bytes is enough, and each smaller one is answered with TT_ROOM. count: lines.
+ * Bytes past 2^64 - 1 are told as 2^64 - 1.
+ *
+ * A refused line stops the call as it stops tt_draw_lines: count is the lines before it, and bytes are those of their
+ * rows. The call makes the glyphs as tt_draw_lines does, and no row.
+ */
+uint32_t tt_lines_room(const uint8_t *font, size_t font_bytes, const uint8_t *texts, size_t text_bytes,
+                       const uint64_t *ends, size_t ends_count, const struct tt_job *job, size_t keep,
+                       struct tt_answer *answer);
 
 /*
  * Makes the bitmaps of a list of glyphs by their numbers, at most 4,096: those that a shaper gives, in the order of the

@@ -7,6 +7,7 @@ ghost use Rattle.tt_c_calls.specs.Asked.{face_reading};
 ghost use Rattle.tt_c_calls.specs.Bitmaps.{DrawsGlyphs};
 ghost use Rattle.tt_c_calls.specs.Fonts.{CountsFaces, OpensFont};
 ghost use Rattle.tt_c_calls.specs.Layouts.{LaysOutText, PlacesPens};
+ghost use Rattle.tt_c_calls.specs.LineRooms.{TellsRoom};
 ghost use Rattle.tt_c_calls.specs.Lines.{DrawsTexts};
 ghost use Rattle.tt_c_calls.specs.Maps.{MapsText};
 ghost use Rattle.tt_c_calls.specs.Measures.{MeasuresText, PlacesCharacters};
@@ -258,6 +259,25 @@ pub extern "C" fn tt_draw_lines(
 {
     let all = Texts { bytes: texts, ends };
     *answer = tt_c_calls::draw_lines(alloc, font, &all, job, keep, rows, lines).0;
+    answer.status
+}
+
+/// `tt_c_calls::lines_room`.
+#[unsafe(no_mangle)]
+pub extern "C" fn tt_lines_room(
+    alloc: Global,
+    font: &[u8],
+    texts: &[u8],
+    ends: &[u64],
+    job: &CJob,
+    keep: usize,
+    answer: &mut CAnswer,
+) -> u32
+    ensures status { result ≡ answer.new.status }
+    ensures tells { TellsRoom job.now font.now texts.now ends.now answer.new }
+{
+    let all = Texts { bytes: texts, ends };
+    *answer = tt_c_calls::lines_room(alloc, font, &all, job, keep);
     answer.status
 }
 

@@ -8,6 +8,8 @@ pub mod TextTaken
 pub mod Rows
 pub mod LinesDrawn
 pub mod LinesStopped
+pub mod RoomAsked
+pub mod RoomLaws
 pub mod StrikeLines
 pub mod BitmapLists
 pub mod LaidOut

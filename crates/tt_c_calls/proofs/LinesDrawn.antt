@@ -38,7 +38,7 @@ same_part m at n old new same within =
     ∙ drop-take at n old
 
 -- the rows of a line have the bytes that its entry tells
-shown_bytes : (j : CJob) (font line : List ℕ) (told : CPicture) (rows : List ℕ) (cost : ℕ)
+pub shown_bytes : (j : CJob) (font line : List ℕ) (told : CPicture) (rows : List ℕ) (cost : ℕ)
     → IsShown j font line told rows cost → length rows ≡ told.row_bytes * told.height
 shown_bytes j font line told rows cost (inl (blank, is, none, free)) = rw (is, none) refl
 shown_bytes j font line told rows cost (inr (other, (p, of, is, those, takes))) = rw (is, those) of.ready.rows
@@ -91,7 +91,7 @@ bytes_behind [] x = omega arith
 bytes_behind (t ∷ ts) x = omega (arith, bytes_behind ts x)
 
 -- the lines up to one more
-lines_behind : (texts : List ℕ) (from i : ℕ) (ends : List ℕ) → i < length ends
+pub lines_behind : (texts : List ℕ) (from i : ℕ) (ends : List ℕ) → i < length ends
     → lines_by texts from (take (suc i) ends)
     ≡ lines_by texts from (take i ends) ++ line_between texts (get_or (from ∷ ends) i 0) (get_or ends i 0) ∷ []
 lines_behind texts from i [] few = absurd (omega (arith, few))
@@ -150,7 +150,7 @@ shown_cost j font line told rows cost (inr (other, (p, of, is, those, takes))) =
     rw (other, takes) (cost_of_line j font line p of)
 
 -- what the lines so far take, and one line more
-first_taken_too : (j : CJob) (font texts ends : List ℕ) (i cost : ℕ) → i < length ends
+pub first_taken_too : (j : CJob) (font texts ends : List ℕ) (i cost : ℕ) → i < length ends
     → line_taken j font (line_between texts (start_of ends i) (get_or ends i 0)) ≡ cost
     → first_taken j font texts ends (i + 1) ≡ first_taken j font texts ends i + cost
 first_taken_too j font texts ends i cost few takes =
@@ -238,7 +238,7 @@ pub record IsDrawnTo (j : CJob) (font texts ends before room : List ℕ) (told_b
   pub few : taken ≤ 18446744073709551615 * i
 
 -- the start of the next line
-start_behind : (ends : List ℕ) (i : ℕ) → get_or ends i 0 ≡ start_of ends (i + 1)
+pub start_behind : (ends : List ℕ) (i : ℕ) → get_or ends i 0 ≡ start_of ends (i + 1)
 start_behind ends i = let next : i + 1 ≡ suc i = omega arith in rw next refl
 
 -- the facts after one line more

@@ -4,6 +4,7 @@ pub mod Asked
 pub mod Fonts
 pub mod Pictures
 pub mod Lines
+pub mod LineRooms
 pub mod Strikes
 pub mod Measures
 pub mod Maps

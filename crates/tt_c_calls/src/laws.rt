@@ -1,5 +1,6 @@
 //! Lemmas about the definitions, for all faults, jobs, texts and files.
 
+ghost use Rattle.tt_c_calls.specs.LineRooms.{AskedRoomIsEnough, SmallerRoomIsRefused};
 ghost use Rattle.tt_c_calls.specs.Offsets.{OffsetsCutTexts, OffsetsRise};
 ghost use Rattle.tt_c_calls.specs.Laws.{FontMessagesAreLines, JobMessagesAreLines, MessagesAreShort, PlainIsRun, ShortRoomsAreEnough};
 
@@ -27,4 +28,11 @@ pub fn plain_is_run()
 pub fn offsets_cut_texts()
     ensures rise { OffsetsRise }
     ensures cut { OffsetsCutTexts }
+{}
+
+/// Lemma: `lines_room` reports the exact room of `draw_lines` for the same lines. A room of so many bytes is enough, and
+/// each smaller one is refused as too small, unless memory is refused.
+pub fn asked_rooms_are_exact()
+    ensures enough { AskedRoomIsEnough }
+    ensures smaller { SmallerRoomIsRefused }
 {}

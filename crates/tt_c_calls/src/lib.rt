@@ -15,6 +15,7 @@ mod messages;
 mod offsets;
 mod opening;
 mod pictures;
+mod room_asking;
 mod strikes;
 
 pub use answer::CAnswer;
@@ -28,4 +29,5 @@ pub use measuring::{CBox, CCharacter, CMeasure, characters, measure};
 pub use messages::message;
 pub use opening::{CFont, faces, open};
 pub use pictures::{Band, CPicture};
+pub use room_asking::lines_room;
 pub use strikes::{CStrike, CUnderline, strike};

@@ -34,7 +34,7 @@ pub struct Texts<'a> {
 }
 
 /// Whether a line is blank: the job says so, and the line has no byte.
-fn is_blank(job: &CJob, line: &[u8]) -> bool
+pub(crate) fn is_blank(job: &CJob, line: &[u8]) -> bool
     ensures { result ≡ is_blank job.now line.now }
 {
     job.blank != 0 && line.is_empty()
@@ -59,7 +59,7 @@ fn blank_line(at: usize) -> CLine
 
 /// The answer of a call that a line stopped, by the line's own answer. The `count` lines before it were drawn in `used`
 /// bytes.
-fn stopped(answer: CAnswer, used: usize, count: usize) -> CAnswer
+pub(crate) fn stopped(answer: CAnswer, used: usize, count: usize) -> CAnswer
     requires { used + answer.bytes < 18446744073709551616 }
     ensures { result ≡ stopped_answer answer used count }
 {
