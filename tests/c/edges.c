@@ -130,6 +130,9 @@ static void try_nothing(struct room text) {
   expect(tt_draw_lines(font.at, font.size, NULL, 0, NULL, 0, &wide, 0, NULL, 0, NULL, 0, &answer) == TT_DONE &&
              answer.bytes == 0 && answer.count == 0,
          "tt_draw_lines: status %u", answer.status);
+  expect(tt_lines_room(font.at, font.size, NULL, 0, NULL, 0, &wide, 0, &answer) == TT_DONE && answer.bytes == 0 &&
+             answer.count == 0,
+         "tt_lines_room: status %u", answer.status);
   struct tt_strike strike;
   expect(tt_strike(NULL, 0, &wide, &strike, &answer) == TT_FONT && answer.number == 2, "tt_strike, of a font: status %u",
          answer.status);
@@ -210,6 +213,8 @@ static void try_all_offsets(void) {
   try_offsets("offsets of characters of one to four bytes", "A\xc3\xa9\xe2\x82\xac\xf0\x9d\x84\x9e" "B", 0,
               (const uint64_t[]){0, 1, 3, 6, 10}, 5);
   try_offsets("offsets beside selectors, read widely", selected, 1, (const uint64_t[]){3, 14}, 2);
+  try_offsets("the offset of a letter between selectors", "\xef\xb8\x8f" "A" "\xef\xb8\x8f\xef\xb8\x8f", 1,
+              (const uint64_t[]){3}, 1);
   try_offsets("offsets of selectors, read strictly", selected, 0, (const uint64_t[]){0, 3, 4, 7, 10, 14}, 6);
   try_offsets("no offset of selectors alone", "\xef\xb8\x8f\xef\xb8\x8f", 1, NULL, 0);
 }

@@ -80,6 +80,25 @@ struct drawn_lines asked_lines(const struct question *q, size_t rows, size_t lin
   return it;
 }
 
+struct tt_answer asked_room(const struct question *q) {
+  struct room answer = room_of(sizeof(struct tt_answer));
+  uint32_t status = tt_lines_room(q->font.at, q->font.size, q->text.at, q->text.size, (const uint64_t *)q->ends.at,
+                                  count_of(q), (const struct tt_job *)q->job.at, q->keep,
+                                  (struct tt_answer *)answer.at);
+  struct tt_answer told = *(struct tt_answer *)answer.at;
+  expect_answer("tt_lines_room", status, &told);
+  expect(kept_from(answer, sizeof told), "tt_lines_room writes before its answer");
+  give_up(answer);
+  return told;
+}
+
+/* The room that is asked for is that of the lines that are drawn, and the same line is refused. */
+static void compare_room(const struct question *q, const struct tt_answer *drawn) {
+  struct tt_answer told = asked_room(q);
+  expect(are_alike(&told, drawn), "tt_lines_room: status %u, %" PRIu64 " bytes, and not status %u, %" PRIu64,
+         told.status, told.bytes, drawn->status, drawn->bytes);
+}
+
 void forget_lines(struct drawn_lines it) {
   give_up(it.rows);
   give_up(it.told);
@@ -143,12 +162,14 @@ struct drawn_lines tried_lines(struct question *q) {
   if (count_of(q) > 0) forget_lines(asked_lines(q, 1 << 16, count_of(q) - 1));
   struct drawn_lines it = in_enough(q);
   for (size_t i = 0; i < count_of(q) && i <= it.answer.count; i++) compare_line(q, &it, i);
+  compare_room(q, &it.answer);
   for (size_t i = 0; i < sizeof keeps / sizeof *keeps; i++) {
     q->keep = keeps[i];
     struct drawn_lines other = asked_lines(q, it.rows.size + i, count_of(q) + i);
     expect(are_alike(&other.answer, &it.answer) && memcmp(other.rows.at, it.rows.at, it.answer.bytes) == 0 &&
                memcmp(other.told.at, it.told.at, it.answer.count * sizeof(struct tt_line)) == 0,
            "tt_draw_lines: another answer where %zu bytes are kept", keeps[i]);
+    compare_room(q, &it.answer);
     forget_lines(other);
   }
   return it;

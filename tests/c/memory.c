@@ -14,7 +14,7 @@
 /* So many refusals may be done without, and of lines so many a line. */
 #define SPARED 5
 
-/* tt_draw_lines asks for so many blocks at the least. */
+/* tt_draw_lines and tt_lines_room ask for so many blocks at the least. */
 #define LEAST 5
 
 static struct room read_font(const char *name) {
@@ -88,6 +88,27 @@ static void refuse_each_of_lines(struct question *q, const char *of) {
   verdict("tt_draw_lines%s, with each of %ld blocks refused", of, nth);
 }
 
+/* The room of lines is whole, or that of some lines before the one for which memory was refused. */
+static void refuse_each_of_room(struct question *q, const char *of) {
+  struct tt_answer whole = asked_room(q);
+  size_t lines = q->ends.size / sizeof(uint64_t);
+  long nth = 0, spared = 0;
+  for (;; nth++) {
+    blocks_refused = 0;
+    blocks_granted = nth;
+    struct tt_answer it = asked_room(q);
+    blocks_granted = -1;
+    if (it.status != TT_MEMORY || blocks_refused == 0) {
+      spared += blocks_refused;
+      expect(are_alike(&it, &whole), "tt_lines_room: status %u without block %ld", it.status, nth);
+    }
+    expect(it.count <= whole.count && it.bytes <= whole.bytes, "tt_lines_room: more room without block %ld", nth);
+    if (blocks_refused == 0) break;
+  }
+  count_them(nth, LEAST, spared, SPARED * (long)lines);
+  verdict("tt_lines_room%s, with each of %ld blocks refused", of, nth);
+}
+
 static void refuse_to_messages(void) {
   static const struct tt_answer answers[] = {
       {.status = TT_FONT, .number = 47, .table = {'g', 'l', 'y', 'f'}, .offset = 123456},
@@ -132,6 +153,7 @@ int main(int count, char **words) {
       q.ends = held(ends, lines * sizeof *ends);
       q.keep = 1 << 20;
       refuse_each_of_lines(&q, of);
+      refuse_each_of_room(&q, of);
       give_up_question(q);
     }
   }

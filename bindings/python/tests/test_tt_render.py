@@ -117,6 +117,16 @@ class Calls(unittest.TestCase):
         self.assertEqual([got[0], got[3]], [self.font.label("A", 16), self.font.label("B", 16)])
         self.assertEqual(got[1:3], 2 * [tt_render.Picture(0, 0, 0, 0, b"")])
 
+    def test_labels_room(self):
+        texts = ["Shelf 12", "jolly", "A"]
+        for size, margin in ((9, 0), (24, 2), (100, 0)):
+            wanted = sum(len(it.rows) for it in self.font.labels(texts, size, margin=margin))
+            self.assertEqual(self.font.labels_room(texts, size, margin=margin), wanted)
+        self.assertEqual(self.font.labels_room([], 16), 0)
+        self.assertEqual(self.font.labels_room(["", "A", ""], 16, blank=True), len(self.font.label("A", 16).rows))
+        error = self.refused(self.font.labels_room, ["A", "", "B"], 16)
+        self.assertEqual((error.number, error.line), (62, 1))
+
     def test_measure(self):
         got, picture = self.font.measure("jolly", 24), self.font.label("jolly", 24)
         self.assertEqual(got[:4], picture[:4])
@@ -131,7 +141,8 @@ class Calls(unittest.TestCase):
         self.assertIsNone(got[2].ink)
 
     def test_offsets(self):
-        for text, wanted in (("Aé€\U0001d11eB", [0, 1, 3, 6, 10]), ("\ufe0fA\ufe0f\ufe0f\U000e0100B", [3, 14]), ("", [])):
+        for text, wanted in (("Aé€\U0001d11eB", [0, 1, 3, 6, 10]), ("\ufe0fA\ufe0f\ufe0f\U000e0100B", [3, 14]),
+                             ("\ufe0fa\ufe0f\ufe0f", [3]), ("", [])):
             pens, places = self.font.pens(text, 16, margin=1), self.font.characters(text, 16, margin=1)
             self.assertEqual([it.offset for it in pens], wanted)
             self.assertEqual([it.offset for it in places], wanted)

@@ -144,6 +144,18 @@ class Font:
             room, done = max(room, answer.bytes), done + answer.count
             del rest[len(rest) - answer.count :]
 
+    def labels_room(self, texts: Iterable[str], size: int, *, margin: int = 0, fit: int = Fit.BEST, grow: bool = True,
+                    kern: bool = False, rounded: bool = False, blank: bool = False, keep: int = 1 << 20) -> int:
+        """Counts the bytes of the rows of all pictures of `labels`, for texts that fit one call, without their rows."""
+        lines, job = [c.utf8_of(it) for it in texts], self._job(size, margin, fit, grow, kern, rounded, blank)
+        ends = (c.u64 * len(lines))(*itertools.accumulate(map(len, lines)))
+        answer = c.ask("tt_lines_room", self._data, b"".join(lines), ends, job, ctypes.c_size_t(keep), allowed=range(8))
+        if answer.status == c.DONE:
+            return answer.bytes
+        error = Error(answer)
+        error.line = answer.count
+        raise error
+
     def measure(self, text: str, size: int, *, margin: int = 0, fit: int = Fit.BEST, grow: bool = True,
                 kern: bool = False, rounded: bool = False) -> Measure:
         """Measures a line of text."""

@@ -93,7 +93,7 @@ def utf8_of(text: str) -> bytes:
 class Error(Exception):
     """A refusal: its status and number, as tt_render.h lists them, and the table and offset of a font's defect.
 
-    `line` is the index of the text that `labels` refused, else None.
+    `line` is the index of the text that `labels` or `labels_room` refused, else None.
     """
 
     def __init__(self, answer: Any) -> None:

@@ -298,6 +298,17 @@ extern "C" {
         lines_room: usize,
         answer: *mut Answer,
     ) -> u32;
+    pub fn tt_lines_room(
+        font: *const u8,
+        font_bytes: usize,
+        texts: *const u8,
+        text_bytes: usize,
+        ends: *const u64,
+        ends_count: usize,
+        job: *const Job,
+        keep: usize,
+        answer: *mut Answer,
+    ) -> u32;
     pub fn tt_glyphs(
         font: *const u8,
         font_bytes: usize,

@@ -44,7 +44,7 @@ impl Error {
         Some(self.answer.bytes).filter(|_| self.answer.status == ROOM)
     }
 
-    /// The index of the text that `Font::labels` refused.
+    /// The index of the text that `Font::labels` or `Font::labels_room` refused.
     pub fn line(&self) -> Option<usize> {
         self.line
     }

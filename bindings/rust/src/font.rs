@@ -8,6 +8,15 @@ const FIRST_ROOM: usize = 1 << 16;
 /// The room of a first call that draws several texts, and the glyphs that are cached between them, in bytes.
 const LINES_ROOM: usize = 1 << 20;
 
+/// The texts one after the other, and where each ends in that.
+fn joined(texts: &[&str]) -> (String, Vec<u64>) {
+    let ends = texts.iter().scan(0, |end, it| {
+        *end += it.len() as u64;
+        Some(*end)
+    });
+    (texts.concat(), ends.collect())
+}
+
 /// Counts the faces of a font file.
 pub fn faces(bytes: &[u8]) -> Result<u64, Error> {
     let mut answer = Answer::default();
@@ -145,14 +154,7 @@ impl<'a> Font<'a> {
     /// Draws as many of the first lines as a room holds, and of a call.
     fn draw_lines(&self, texts: &[&str], job: &Job, rows: &mut [u8]) -> (Answer, Vec<Line>) {
         let texts = &texts[..texts.len().min(4096)];
-        let text = texts.concat();
-        let ends: Vec<u64> = texts
-            .iter()
-            .scan(0, |end, it| {
-                *end += it.len() as u64;
-                Some(*end)
-            })
-            .collect();
+        let (text, ends) = joined(texts);
         let (mut lines, mut answer) = (vec![Line::default(); texts.len()], Answer::default());
         unsafe {
             c::tt_draw_lines(
@@ -172,6 +174,29 @@ impl<'a> Font<'a> {
             )
         };
         (answer, lines)
+    }
+
+    /// Counts the bytes of the rows of all pictures that one call draws of some texts, without these rows.
+    pub fn labels_room(&self, texts: &[&str], job: &Job) -> Result<u64, Error> {
+        let (text, ends) = joined(texts);
+        let mut answer = Answer::default();
+        unsafe {
+            c::tt_lines_room(
+                self.bytes.as_ptr(),
+                self.bytes.len(),
+                text.as_ptr(),
+                text.len(),
+                ends.as_ptr(),
+                ends.len(),
+                &job.of_face(self.face),
+                LINES_ROOM,
+                &mut answer,
+            )
+        };
+        match done(answer) {
+            Ok(answer) => Ok(answer.bytes),
+            Err(_) => Err(Error::of_line(answer, answer.count as usize)),
+        }
     }
 
     /// Measures a line of text.

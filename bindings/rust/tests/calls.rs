@@ -176,6 +176,24 @@ fn a_refused_line_is_named() {
 }
 
 #[test]
+fn the_room_of_labels_is_that_of_their_rows() {
+    let bytes = font_bytes();
+    let font = Font::new(&bytes).unwrap();
+    let texts = ["Shelf 12", "jolly", "A"];
+    for job in [Job::of_size(9), changed(24, |it| it.margin = 2)] {
+        let mut wanted = 0;
+        font.labels(&texts, &job, |it| wanted += it.rows.len() as u64)
+            .unwrap();
+        assert_eq!(font.labels_room(&texts, &job).unwrap(), wanted);
+    }
+    assert_eq!(font.labels_room(&[], &Job::of_size(16)).unwrap(), 0);
+    let refused = font
+        .labels_room(&["A", "", "B"], &Job::of_size(16))
+        .unwrap_err();
+    assert_eq!((refused.number(), refused.line()), (62, Some(1)));
+}
+
+#[test]
 fn a_blank_line_is_passed() {
     let bytes = font_bytes();
     let font = Font::new(&bytes).unwrap();
@@ -425,6 +443,7 @@ fn offsets_are_those_of_the_characters() {
     for (text, wanted) in [
         ("Aé€\u{1d11e}B", vec![0, 1, 3, 6, 10]),
         ("\u{fe0f}A\u{fe0f}\u{fe0f}\u{e0100}B", vec![3, 14]),
+        ("\u{fe0f}a\u{fe0f}\u{fe0f}", vec![3]),
         ("", vec![]),
     ] {
         let pens = font.pens(text, &job).unwrap();
