@@ -261,7 +261,11 @@ def examples(room):
     if why or not os.path.exists(FONT):
         common.skip("examples/README.md", why or f"{FONT} is not here")
         return
-    code = "\n".join(markdown.code_of(markdown.read("examples/README.md")))
+    blocks = markdown.code_of(markdown.read("examples/README.md"))
+    if not shutil.which("pkg-config") or subprocess.run(["pkg-config", "--exists", "harfbuzz"]).returncode:
+        common.skip("shape.c of examples/README.md", "libharfbuzz-dev or pkg-config is not here")
+        blocks = [it for it in blocks if "harfbuzz" not in it]
+    code = "\n".join(blocks)
     folder = re.search(r"/tmp/[\w./]*?(?=[/\s])", code)[0]
     ran = room.run(code.replace(folder, str(room.path / "made")), "examples")
     names = re.findall(re.escape(folder) + r"/(\w+\.pbm)", code)
