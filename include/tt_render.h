@@ -373,7 +373,7 @@ uint32_t tt_draw_lines(const uint8_t *font, size_t font_bytes, const uint8_t *te
 
 /*
  * The room that tt_draw_lines needs for the rows of all lines, before there is any. Job and lines are as there. bytes
- * is the exact number: a room of so many bytes is enough, and each smaller one is answered with TT_ROOM. count: lines.
+ * is the exact number: this room is enough, and each smaller one is answered with TT_ROOM. count: lines.
  * Bytes past 2^64 - 1 are told as 2^64 - 1.
  *
  * A refused line stops the call as it stops tt_draw_lines: count is the lines before it, and bytes are those of their

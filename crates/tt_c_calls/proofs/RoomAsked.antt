@@ -10,7 +10,7 @@ use Rattle.tt_c_calls.specs.declared.asked.CJob.{CJob}
 use Rattle.tt_c_calls.specs.declared.fault.CallFault.{CallFault}
 use Rattle.tt_c_calls.specs.declared.fault.CallFault.TheVariants as call
 use Rattle.tt_c_calls.specs.Answers.{call_answer, refusal_answer}
-use Rattle.tt_c_calls.specs.LineRooms.{CountsRoom, EndsRoom, IsLineAccepted, IsLineRefused, TellsRoom, first_room, line_at, line_room, lines_room, most_told}
+use Rattle.tt_c_calls.specs.LineRooms.{CountsRoom, EndsRoom, IsLineAccepted, IsLineRefused, TellsRoom, first_room, line_at, line_room, lines_room, most_bytes}
 use Rattle.tt_c_calls.specs.Lines.{IsLinesDefect, LineDefectStands, cost_taken, first_taken, line_between, line_taken, lines_by, lines_wanted, start_of, stopped_answer}
 use Rattle.tt_c_calls.specs.Refusals.{call_font_fault, call_refusal, line_ends, not_utf8, refused, unknown_fit}
 use Rattle.tt_c_calls.proofs.Answered.{writes_none}
@@ -42,7 +42,7 @@ first_room_too j file texts ends i bytes few is =
 pub record IsRoomTo (j : CJob) (file texts ends : List ℕ) (from used i taken : ℕ) : Type 0 where
   pub start : from ≡ start_of ends i
   pub accepted : (k : ℕ) → k < i → IsLineAccepted j file texts ends k
-  pub bytes : used ≡ min (first_room j file texts ends i) most_told
+  pub bytes : used ≡ min (first_room j file texts ends i) most_bytes
   pub takes : first_taken j file texts ends i ≡ taken
   pub few : taken ≤ 18446744073709551615 * i
 
@@ -61,7 +61,7 @@ accepted_too j file texts ends i before here k less = by (cases_lt k i)
 -- the facts after one line more
 pub room_on : (j : CJob) (file texts ends : List ℕ) (from used i taken bytes cost after used_after : ℕ)
     → IsRoomTo j file texts ends from used i taken → taken ≤ lines_budget i → cost ≤ 18446744073709551615
-    → after ≡ taken + cost → used_after ≡ min (used + bytes) most_told → i < length ends → from ≤ get_or ends i 0
+    → after ≡ taken + cost → used_after ≡ min (used + bytes) most_bytes → i < length ends → from ≤ get_or ends i 0
     → get_or ends i 0 ≤ length texts → line_room j file (line_between texts from (get_or ends i 0)) ≡ Ok bytes
     → line_taken j file (line_between texts from (get_or ends i 0)) ≡ cost
     → IsRoomTo j file texts ends (get_or ends i 0) used_after (i + 1) after

@@ -6,7 +6,7 @@ use Rattle.tt_c_calls.specs.declared.asked.CJob.{CJob}
 use Rattle.tt_c_calls.specs.declared.line_drawing.CLine.{CLine}
 use Rattle.tt_c_calls.specs.declared.pictures.CPicture.{CPicture}
 use Rattle.tt_c_calls.specs.Answers.{refusal_answer}
-use Rattle.tt_c_calls.specs.LineRooms.{AskedRoomIsEnough, DrawsInto, EndsRoom, IsLineAccepted, SmallerRoomIsRefused, TellsRoom, first_room, line_at, line_room, lines_room, most_told}
+use Rattle.tt_c_calls.specs.LineRooms.{AskedRoomIsEnough, DrawsInto, EndsRoom, IsLineAccepted, SmallerRoomIsRefused, TellsRoom, first_room, line_at, line_room, lines_room, most_bytes}
 use Rattle.tt_c_calls.specs.Lines.{AreLinesDrawn, DrawsLines, EndsWith, IsLineStopped, IsShown, IsStopped, cost_taken, line_bytes, lines_bytes, lines_wanted, start_of, stopped_answer}
 use Rattle.tt_c_calls.specs.Refusals.{Refusal, line_ends, not_utf8, refused, unknown_fit}
 use Rattle.tt_strike.specs.Refusals.{font, job, large}
@@ -114,7 +114,7 @@ record HasAll (j : CJob) (file texts ends : List ℕ) (asked : CAnswer) : Type 0
   face : Face
   opened : lines_wanted j file ≡ Ok face
   all : (i : ℕ) → i < length ends → IsLineAccepted j file texts ends i
-  bytes : asked.bytes ≡ min (first_room j file texts ends (length ends)) most_told
+  bytes : asked.bytes ≡ min (first_room j file texts ends (length ends)) most_bytes
 
 refusal_stops : (why : Refusal) → (refusal_answer why).status ≢ 0
 refusal_stops (refused (font f)) is = absurd (omega (arith, is))
@@ -135,7 +135,7 @@ has_all j file texts ends asked told done (inl (face, opened, is)) =
       face = face;
       opened = opened;
       all = λ i less. told.counted.accepted i (omega (arith, less, count));
-      bytes = told.counted.bytes ∙ ap (λ (n : ℕ). min (first_room j file texts ends n) most_told) count;
+      bytes = told.counted.bytes ∙ ap (λ (n : ℕ). min (first_room j file texts ends n) most_bytes) count;
     }
 has_all j file texts ends asked told done (inr (inl (why, wanted, is))) =
     absurd (refusal_stops why (sym (ap status_of is) ∙ done))

@@ -24,7 +24,7 @@ abbrev pub line_room : CJob → List ℕ → List ℕ → Result ℕ Refusal
 line_room j font line =
     if is_blank j line then Ok 0 else (picture_wanted j line font >>= λ image. Ok (length image.rows))
 
--- the bytes of the rows of some lines, of which a refused one has none
+-- the bytes of the rows of some lines; a refused line has none
 abbrev pub lines_room : CJob → List ℕ → List (List ℕ) → ℕ
 lines_room j font lines = sum_by (λ line. cost_taken (line_room j font line)) lines
 
@@ -49,14 +49,14 @@ IsLineRefused j font texts ends i why =
     × (line_room j font (line_at texts ends i) ≡ Err why))
 
 -- the most bytes that an answer reports
-abbrev pub most_told : ℕ
-most_told = 18446744073709551615
+abbrev pub most_bytes : ℕ
+most_bytes = 18446744073709551615
 
 -- an answer counts lines that all have rows, and the bytes of these rows
 pub record CountsRoom (j : CJob) (font texts ends : List ℕ) (a : CAnswer) : Type 0 where
   pub few : a.count ≤ length ends
   pub accepted : (i : ℕ) → i < a.count → IsLineAccepted j font texts ends i
-  pub bytes : a.bytes ≡ min (first_room j font texts ends a.count) most_told
+  pub bytes : a.bytes ≡ min (first_room j font texts ends a.count) most_bytes
 
 -- an answer with the bytes and the count of another one
 abbrev pub counted_as : CAnswer → CAnswer → CAnswer
@@ -78,7 +78,7 @@ pub record TellsRoom (j : CJob) (font texts ends : List ℕ) (a : CAnswer) : Typ
   pub end : EndsRoom j font texts ends a
   pub stands : LineDefectStands (IsLinesDefect j font texts ends a.count) a
 
--- a call that draws lines into a room of so many bytes
+-- a call that draws lines into a room of this size
 pub record DrawsInto (j : CJob) (font texts ends : List ℕ) (room : ℕ) (a : CAnswer) : Type 0 where
   pub rows_before : List ℕ
   pub rows : List ℕ

@@ -30,7 +30,7 @@ pub fn offsets_cut_texts()
     ensures cut { OffsetsCutTexts }
 {}
 
-/// Lemma: `lines_room` reports the exact room of `draw_lines` for the same lines. A room of so many bytes is enough, and
+/// Lemma: `lines_room` reports the exact room of `draw_lines` for the same lines. A room of this size is enough, and
 /// each smaller one is refused as too small, unless memory is refused.
 pub fn asked_rooms_are_exact()
     ensures enough { AskedRoomIsEnough }

@@ -18,14 +18,15 @@ use tt_render_lines::make_picture;
 use tt_render_settings::{Setting, lines_budget};
 use tt_strike::{Strike, test_job};
 
-/// What a line needs: the bytes of its rows, and what it takes of the budget of the call.
+/// The need of a line: the bytes of its rows, and its cost, which the budget of the call pays.
 #[derive(Clone, Copy)]
 struct LineNeed {
     bytes: usize,
     cost: u64,
 }
 
-/// What a line needs, of which no row is made. A blank line needs nothing. Errors: those of `text_of` and `make_picture`.
+/// The need of a line, whose rows are not made. A blank line needs nothing. Errors: those of `text_of` and
+/// `make_picture`.
 fn line_need(strike: &mut Strike, job: &CJob, line: &[u8]) -> Result<LineNeed, CallFault>
     ghost font: { List ℕ }
     requires { IsStrikeFor job.now font strike.old }
