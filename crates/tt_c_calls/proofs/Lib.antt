@@ -8,6 +8,7 @@ pub mod TextTaken
 pub mod Rows
 pub mod LinesDrawn
 pub mod LinesStopped
+pub mod LineNeeds
 pub mod RoomAsked
 pub mod RoomLaws
 pub mod StrikeLines

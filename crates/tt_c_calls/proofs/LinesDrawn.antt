@@ -138,7 +138,7 @@ cost_found : (r : Result Job Refusal) (by : Fit → Result Face Fault) (p : Pict
 cost_found (Err why) by p grow made = absurd made
 cost_found (Ok a) by p grow made = cost_of_job a (by a.fit) p grow made
 
-cost_of_line : (j : CJob) (font line : List ℕ) (p : Picture) → IsPictureOf j line font p
+pub cost_of_line : (j : CJob) (font line : List ℕ) (p : Picture) → IsPictureOf j line font p
     → cost_taken (cost_asked j font line) ≡ p.cost
 cost_of_line j font line p of =
     ap cost_taken (cost_found (asked j line) (λ how. face_with font (job_opening j how)) p (grows j) of.made)

@@ -3,13 +3,15 @@ use Rattle.std.proofs.Common.{◌≡◌, ◌∙◌, sym, ap, refl, ℕ, suc, ◌
 use Rattle.std.proofs.lemmas.Bool.{cases_lt}
 use Rattle.std.proofs.lemmas.List.Sums.{sum_by-append}
 use Rattle.tt_core.specs.Faults.{Fault}
+use Rattle.tt_face.specs.Faces.{Face}
 use Rattle.tt_render_settings.specs.Lines.{lines_budget}
 use Rattle.tt_strike.specs.Refusals.{font, job, large}
 use Rattle.tt_c_calls.specs.declared.answer.CAnswer.{CAnswer}
 use Rattle.tt_c_calls.specs.declared.asked.CJob.{CJob}
 use Rattle.tt_c_calls.specs.declared.fault.CallFault.{CallFault}
 use Rattle.tt_c_calls.specs.declared.fault.CallFault.TheVariants as call
-use Rattle.tt_c_calls.specs.Answers.{call_answer, refusal_answer}
+use Rattle.tt_c_calls.specs.Answers.{call_answer, done_answer, refusal_answer}
+use Rattle.tt_c_calls.specs.Asked.{IsAskedDefect}
 use Rattle.tt_c_calls.specs.LineRooms.{CountsRoom, EndsRoom, IsLineAccepted, IsLineRefused, TellsRoom, first_room, line_at, line_room, lines_room, most_bytes}
 use Rattle.tt_c_calls.specs.Lines.{IsLinesDefect, LineDefectStands, cost_taken, first_taken, line_between, line_taken, lines_by, lines_wanted, start_of, stopped_answer}
 use Rattle.tt_c_calls.specs.Refusals.{call_font_fault, call_refusal, line_ends, not_utf8, refused, unknown_fit}
@@ -71,7 +73,7 @@ room_on j file texts ends from used i taken bytes cost after used_after so_far e
     let costs : line_taken j file (line_at texts ends i) ≡ cost = rw so_far.start at takes in
     let more = first_room_too j file texts ends i bytes few has in
     let one : IsLineAccepted j file texts ends i = record {
-      ends = (rw so_far.start at order, small);
+      line = (rw so_far.start at order, small);
       budget = omega (arith, so_far.takes, enough);
       picture = (bytes, has);
     } in
@@ -120,6 +122,13 @@ line_has_none j file texts ends from used i taken e few so_far why defect = reco
   stands = stands_at (IsLinesDefect j file texts ends i) used i e defect;
 }
 
+-- the ends of a line are wrong
+pub wrong_ends : (texts ends : List ℕ) (from i : ℕ) → from ≡ start_of ends i
+    → (get_or ends i 0 < from) ⊎ ((from ≤ get_or ends i 0) × (length texts < get_or ends i 0))
+    → (get_or ends i 0 < start_of ends i) ⊎ (length texts < get_or ends i 0)
+wrong_ends texts ends from i start (inl before) = inl (rw start at before)
+wrong_ends texts ends from i start (inr (order, past)) = inr past
+
 -- the line itself is refused
 pub refused_itself : (j : CJob) (file texts ends : List ℕ) (from i : ℕ) (e : CallFault) → from ≡ start_of ends i
     → from ≤ get_or ends i 0 → get_or ends i 0 ≤ length texts → first_taken j file texts ends i ≤ lines_budget i
@@ -138,6 +147,30 @@ refused_itself j file texts ends from i call.LineEnds start order small enough i
 refused_itself j file texts ends from i call.NotUtf8 start order small enough is =
     inr (inr ((rw start at order, small), enough, rw start at is))
 refused_itself j file texts ends from i call.Memory start order small enough is = tt
+
+-- the defect that a line met is one of the lines' data
+pub line_told : (j : CJob) (file texts ends : List ℕ) (from i : ℕ) (e : CallFault) → from ≡ start_of ends i
+    → IfSome (call_font_fault e) (IsAskedDefect j (line_between texts from (get_or ends i 0)) file)
+    → IfSome (call_font_fault e) (IsLinesDefect j file texts ends i)
+line_told j file texts ends from i (call.Font f) start stands = inr (rw start at stands)
+line_told j file texts ends from i (call.Job why) start stands = tt
+line_told j file texts ends from i call.FontLarge start stands = tt
+line_told j file texts ends from i call.UnknownFit start stands = tt
+line_told j file texts ends from i call.LineEnds start stands = tt
+line_told j file texts ends from i call.NotUtf8 start stands = tt
+line_told j file texts ends from i call.Memory start stands = tt
+
+-- a call that counted all lines
+pub all_counted : (j : CJob) (file texts ends : List ℕ) (from used i taken : ℕ) (face : Face) → i ≡ length ends
+    → lines_wanted j file ≡ Ok face → IsRoomTo j file texts ends from used i taken
+    → TellsRoom j file texts ends (done_answer used (length ends))
+all_counted j file texts ends from used i taken face all opened so_far =
+    let to = rw all at so_far in
+    record {
+      counted = record { few = omega arith; accepted = to.accepted; bytes = to.bytes };
+      end = inl (face, opened, refl);
+      stands = λ is. absurd (omega (arith, is));
+    }
 
 -- no line is counted where the font or the job is refused, or memory was
 refused_early : (j : CJob) (file texts ends : List ℕ) (e : CallFault)

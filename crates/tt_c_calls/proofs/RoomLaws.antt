@@ -1,5 +1,6 @@
 -- The room that a call reports is the exact room of the call that draws the lines.
 use Rattle.std.proofs.Common.{◌≡◌, ◌≢◌, ◌∙◌, sym, ap, refl, ℕ, zero, suc, ◌+◌, ◌-◌, ◌^◌, ◌≤◌, ◌<◌, min, List, [], ◌∷◌, length, take, drop, get_or, Result, Ok, Err, ◌⊎◌, inl, inr, arith, length-drop, length-take}
+use Rattle.std.proofs.lemmas.List.Sums.{sum_by-append}
 use Rattle.tt_face.specs.Faces.{Face}
 use Rattle.tt_c_calls.specs.declared.answer.CAnswer.{CAnswer}
 use Rattle.tt_c_calls.specs.declared.asked.CJob.{CJob}
@@ -28,7 +29,9 @@ drawn_room j file room at (l ∷ ls) (t ∷ ts) ((rows, cost, shown, place, ther
     let one : cost_taken (line_room j file l) ≡ length rows =
     ap cost_taken (shown_room j file l t.picture rows cost shown) in
     let many : length rows ≡ line_bytes t = shown_bytes j file l t.picture rows cost shown in
-    omega (arith, one, many, drawn_room j file room (at + line_bytes t) ls ts others)
+    let all : lines_room j file (l ∷ ls) ≡ 0 + cost_taken (line_room j file l) + lines_room j file ls =
+    sum_by-append (λ (line : List ℕ). cost_taken (line_room j file line)) (l ∷ []) ls in
+    omega (arith, all, one, many, drawn_room j file room (at + line_bytes t) ls ts others)
 
 -- drawn lines lie in their room
 part_within : (n at : ℕ) (room rows : List ℕ) → take n (drop at room) ≡ rows → length rows ≤ length room - at
@@ -81,14 +84,14 @@ of_line : (j : CJob) (file texts ends : List ℕ) (room used : ℕ) (a own : CAn
     → IsLineStopped j file texts (start_of ends a.count) (get_or ends a.count 0) (room - used) own
     → LacksRoom j file texts ends room used a
 of_line j file texts ends room used a own fine serves few is (inl (told, inl before)) =
-    absurd (omega (arith, fine.ends.0, before))
+    absurd (omega (arith, fine.line.0, before))
 of_line j file texts ends room used a own fine serves few is (inl (told, inr past)) =
-    absurd (omega (arith, fine.ends.1, past))
-of_line j file texts ends room used a own fine serves few is (inr (order, small, other, inl memory)) =
+    absurd (omega (arith, fine.line.1, past))
+of_line j file texts ends room used a own fine serves few is (inr (order, small, (other, inl memory))) =
     absurd (serves (ap status_of is ∙ ap status_of memory))
-of_line j file texts ends room used a own fine serves few is (inr (order, small, other, inr (inl (why, wanted, told)))) =
+of_line j file texts ends room used a own fine serves few is (inr (order, small, (other, inr (inl (why, wanted, told))))) =
     let never = rw (other, wanted) at fine.picture.1 in absurd cc
-of_line j file texts ends room used a own fine serves few is (inr (order, small, other, inr (inr (p, of, left, told)))) =
+of_line j file texts ends room used a own fine serves few is (inr (order, small, (other, inr (inr (p, of, left, told))))) =
     record {
       few = few;
       bytes = length p.rows;

@@ -35,7 +35,7 @@ first_room j font texts ends count = lines_room j font (lines_by texts 0 (take c
 -- line i has rows: it ends where it begins or later, and within the texts; the budget serves for it; and its picture is
 -- accepted
 pub record IsLineAccepted (j : CJob) (font texts ends : List ℕ) (i : ℕ) : Type 0 where
-  pub ends : IsLine texts ends i
+  pub line : IsLine texts ends i
   pub budget : first_taken j font texts ends i ≤ lines_budget i
   pub picture : (bytes : ℕ) × (line_room j font (line_at texts ends i) ≡ Ok bytes)
 

@@ -86,13 +86,7 @@ fn room_by(strike: &mut Strike, job: &CJob, texts: &[u8], ends: &[u64]) -> CAnsw
 /// - the answer of the first line that `draw_lines` refuses, with the number of the lines before it and the bytes of
 ///   their rows;
 /// - done. Bytes past 2 ^ 64 - 1, which no room has, are answered as 2 ^ 64 - 1.
-pub fn lines_room(
-    alloc: Global,
-    font: &[u8],
-    texts: &Texts<'_>,
-    job: &CJob,
-    keep: usize,
-) -> CAnswer
+pub fn lines_room(alloc: Global, font: &[u8], texts: &Texts<'_>, job: &CJob, keep: usize) -> CAnswer
     ensures { TellsRoom job.now font.now texts.now.bytes.now texts.now.ends.now result }
 {
     let fit = match fit_of(job.fit) {
