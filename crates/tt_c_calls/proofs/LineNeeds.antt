@@ -1,5 +1,5 @@
 -- The need of a line is that of its picture.
-use Rattle.std.proofs.Common.{◌≡◌, ℕ, List, false, length, IfSome, Result, Ok, Err, refl}
+use Rattle.std.proofs.Common.{◌≡◌, ℕ, List, false, length, IfSome, Ok, Err, refl}
 use Rattle.tt_picture.specs.Pictures.{Picture}
 use Rattle.tt_c_calls.specs.declared.asked.CJob.{CJob}
 use Rattle.tt_c_calls.specs.declared.fault.CallFault.{CallFault}

@@ -1,5 +1,5 @@
 -- No part of the standard: the room that the rows of lines need, asked for by a call of C (profile).
-use Rattle.std.specs.Prelude.{◌≡◌, ◌≢◌, refl, ℕ, ◌+◌, ◌-◌, ◌^◌, ◌<◌, ◌≤◌, true, if◌then◌else◌, min, List, [], ◌∷◌, length, take, get_or, Result, Ok, Err, ◌⊎◌}
+use Rattle.std.specs.Prelude.{◌≡◌, ◌≢◌, refl, ℕ, ◌^◌, ◌<◌, ◌≤◌, if◌then◌else◌, min, List, [], ◌∷◌, length, take, get_or, Result, Ok, Err, ◌⊎◌}
 use Rattle.std.specs.List.{sum_by}
 use Rattle.tt_core.specs.declared.fault.JobFault.TheVariants as fault
 use Rattle.tt_core.specs.Faults.{job_number}

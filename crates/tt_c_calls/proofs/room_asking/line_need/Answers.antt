@@ -1,4 +1,4 @@
-use Rattle.std.proofs.Common.{◌≡◌, ◌∙◌, arith, refl}
+use Rattle.std.proofs.Common.{refl}
 use Rattle.std.proofs.lemmas.Result.{err_from_is_err_and}
 use Rattle.tt_c_calls.specs.Refusals.{call_of_draw}
 use Rattle.tt_c_calls.proofs.Answered.{draw_refused, draw_tells, drawn_too}
