@@ -32,12 +32,16 @@ returns-then-taken-budget g c =
     let so_far = c.loop-i.invariant.room in
     rw (c.stopped-then-taken-budget.ensures, c.answer_of-then-taken-budget.ensures)
     (line_has_none _ _ _ _ _ _ _ _ (call.Job fault.WorkLarge) c.loop-i-test.true so_far
-    (inr (inl ((omega (arith, so_far.start), omega arith), refl, omega (
-      arith,
-      so_far.takes,
-      c.lines_budget-budget.ensures,
-      c.if-taken-budget.true,
-    )))) tt)
+    (inr (inl (
+      (omega (arith, so_far.start), omega arith),
+      refl,
+      omega (
+        arith,
+        so_far.takes,
+        c.lines_budget-budget.ensures,
+        c.if-taken-budget.true,
+      ),
+    ))) tt)
 
 pub returns-in-Err : goal.returns-in-Err
 returns-in-Err g c =
