@@ -33,7 +33,7 @@ EXAMPLES = {
     "A test": (r"tests/measure|measure/run|LONGEST_FIRST",),
 }
 
-# What each recipe names: each change may break a promise, and is noticed.
+# What is named before the recipes, for all of them: each change may break a promise, and is noticed.
 OF_EACH = "wrong_bodies/", "CHANGELOG.md"
 
 # Where nobody writes by hand, where documents are, and the scripts that try the documents.
@@ -62,21 +62,27 @@ def having(pattern, *others):
     return sorted(grep(pattern, ".", *(f":!{it}" for it in (*APART, *others))) | grep(pattern, *BY_HAND))
 
 
-def path_of(word):
-    """Returns the path that a word of a recipe is, below the root."""
-    return f"crates/{word}" if word.startswith("tt_") and "/" in word else word
+def paths_of(word):
+    """Returns the paths that a word of a recipe is, below the root; {a,b} is each of these names."""
+    names = re.search(r"\{([^{}]*)\}", word)
+    if names:
+        return [path for it in names[1].split(",") for path in paths_of(word[: names.start()] + it + word[names.end() :])]
+    return [f"crates/{word}" if word.startswith("tt_") and "/" in word else word]
 
 
 def recipes():
-    """Returns, for each heading of a recipe, the paths that the first cells of its table name."""
-    found, heading = {}, ""
+    """Returns the paths that are named before the recipes, and for each heading of a recipe those that its list names:
+    those before a colon."""
+    first, found, heading = [], {}, ""
     for block in markdown.blocks(markdown.read("docs/RECIPES.md")):
         if block.kind == "heading" and block.text.startswith("## "):
             heading = block.text[3:]
             found[heading] = []
-        elif block.kind == "row" and heading:
-            found[heading] += [path_of(it) for it in markdown.spans(markdown.cells(block.text)[0])]
-    return found
+        elif not heading:
+            first += markdown.spans(block.text)
+        elif block.kind == "item":
+            found[heading] += [path for it in markdown.spans(re.split(r":\s", block.text)[0]) for path in paths_of(it)]
+    return first, found
 
 
 def missing(paths):
@@ -103,10 +109,10 @@ def main():
     if why:
         common.skip("all", why)
         return common.report("recipes")
-    of_heading = recipes()
+    first, of_heading = recipes()
+    common.verdict("of each recipe", [f"the first lines lack {it}" for it in OF_EACH if it not in first])
     for heading, paths in of_heading.items():
         common.verdict(f"paths of: {heading}", missing(paths))
-        common.verdict(f"of each recipe: {heading}", [f"it lacks {it}" for it in OF_EACH if it not in paths])
         example = next((EXAMPLES[it] for it in EXAMPLES if heading.startswith(it)), None)
         faults = unnamed(paths, example) if example else ["no example is in this script"]
         common.verdict(f"files of: {heading}", faults)
