@@ -32,7 +32,11 @@ impl<'f, 'a> SizedFace<'f, 'a> {
     /// The distinct glyphs of some units, fitted; only where work is bounded. Each comes from the cache where its cost is
     /// left, else it is made. Errors, the first of: those of loca and glyf, of the programs; WorkLarge of the points;
     /// those of the glyphs in the order of the units. Memory may come at any allocation.
-    pub fn fit_units(&mut self, units: &[(u16, u32)], cache: &Cache) -> Result<FittedUnits, DrawFault>
+    pub fn fit_units(
+        &mut self,
+        units: &[(u16, u32)],
+        cache: &Cache,
+    ) -> Result<FittedUnits, DrawFault>
         requires known { All (λ g. g.0 < glyphs_of self.old.face.metrics) units.now }
         requires few { length units.now ≤ text_limit }
         requires bounded { is_bounded self.old.fit ≡ true }

@@ -61,7 +61,13 @@ impl<'f, 'a> SizedFace<'f, 'a> {
         let ppem = self.ppem();
         let mut steps = self.advances(text)?;
         let units = self.fit_units(&steps, cache)?;
-        put_steps(face.metrics(), ppem, &units.places, &units.fitted, &mut steps);
+        put_steps(
+            face.metrics(),
+            ppem,
+            &units.places,
+            &units.fitted,
+            &mut steps,
+        );
         Ok(FittedText { steps, units })
     }
 }

@@ -11,3 +11,16 @@ use Rattle.tt_strike.proofs.Fitted.{edges_stop_units, units_cost, units_made, un
 use Rattle.tt_strike.proofs.Setting.{maker_alike}
 use Rattle.tt_strike.proofs.Stepped.{line_tells_no_defect}
 use Rattle.tt_strike.proofs.sized.SizedFace.drawn_units.Goals as goal
+
+pub tested_edges-requires-clause-bounded : goal.tested_edges-requires-clause-bounded
+tested_edges-requires-clause-bounded c = rw c.fit.ensures c.requires.bounded
+
+pub tested_edges-requires-clause-made : goal.tested_edges-requires-clause-made
+tested_edges-requires-clause-made c =
+    (line_fitter c.requires.fitted.0 (map (λ (g : ℕ × ℕ). g.0) c.args.laid.now.line.glyphs.items), c.requires.fitted.1.fitted)
+
+pub tested_edges-requires-clause-places : goal.tested_edges-requires-clause-places
+tested_edges-requires-clause-places c = c.requires.fitted.1.places
+
+pub tested_edges-requires-clause-numbers : goal.tested_edges-requires-clause-numbers
+tested_edges-requires-clause-numbers c = c.requires.fitted.1.numbers

@@ -142,9 +142,11 @@ invariant_of-self-2 c =
     let gs = numbers_of c.args.units.now in
     let all = goal.at.invariant_of-self-2 c in
     let numbers = numbers_are all.In_ok-met in
-    let after = rw (c.deref-2.ensures.value, numbers, charged_is all.In_ok-charge_points numbers) at c.in_ok-fitted.ensures.after in
-    (given_back z.face z.ppem z.fit s c.fit_glyphs.new.fitter c.work-begun.result c.give_back.new.self c.in_ok-fitter.ensures.setting
-    (rw after (line_alike s gs (distinct gs))) c.work-begun.ensures c.give_back.ensures, c.self.invariant.1)
+    let after = rw (c.deref-2.ensures.value, numbers, charged_is all.In_ok-charge_points numbers) at c.in_ok-fitted.ensures.after in (
+      given_back z.face z.ppem z.fit s c.fit_glyphs.new.fitter c.work-begun.result c.give_back.new.self c.in_ok-fitter.ensures.setting
+          (rw after (line_alike s gs (distinct gs))) c.work-begun.ensures c.give_back.ensures,
+      c.self.invariant.1,
+    )
 
 pub returns-clause-fitted : goal.returns-clause-fitted
 returns-clause-fitted c =
