@@ -148,7 +148,7 @@ pub fn begin_label(
 }
 
 /// The glyphs of a label, drawn. Those that may be and are small enough are cached. Errors, where work is bounded:
-/// WorkLarge of their chords, and then of their crossings by the work that is left; Memory.
+/// WorkLarge of their chords, and then of their crossings by the remaining work; Memory.
 pub fn finish_label(
     sized: &mut SizedFace,
     text: &str,

@@ -19,8 +19,8 @@ use Rattle.tt_strike.specs.Work.{line_fitter, points_in, work_left, work_tested}
 abbrev pub outlines_made : Face → ℕ → Fit → List ℕ → Result (List Outline) Refused
 outlines_made face ppem how gs = as_font (setting face ppem how) >>= λ s. outlines_tested s how gs
 
--- the distinct glyphs of some units are fitted by this fitter: these, with the table of their places, and so much work
--- is left
+-- the distinct glyphs of some units are fitted by this fitter: these, with the table of their places, and this much work
+-- remains
 pub record AreFittedUnits (face : Face) (ppem : ℕ) (how : Fit) (gs : List ℕ) (t : FittedUnits) (s : Fitter) : Type 0 where
   pub setting : IsSetting face ppem how s
   pub points : work_tested how point_work_limit (points_in s gs) ≡ Ok tt

@@ -24,7 +24,7 @@ pub struct FittedUnits {
     pub places: Vec<u16>,
     /// The distinct glyphs, in order of first appearance.
     pub fitted: Vec<FittedGlyph>,
-    /// The work that is left after the programs of the glyphs.
+    /// The work that remains after the programs of the glyphs.
     pub left: Option<u64>,
 }
 
