@@ -1,6 +1,6 @@
 -- The glyphs of some units, fitted, and then drawn: where each part of the work stops, and what it is refused for.
 use Rattle.std.proofs.Common.{◌≡◌, ◌∙◌, refl, sym, ap, ℕ, ◌<◌, true, List, map, Result, Ok, Err, inl, inr}
-use Rattle.std.specs.Prelude.{IfSome, IsOkAnd}
+use Rattle.std.specs.Prelude.{IfOk, IfSome, IsOkAnd}
 use Rattle.tt_core.specs.Chains.{was-err}
 use Rattle.tt_core.specs.declared.draw_fault.DrawFault.{DrawFault}
 use Rattle.tt_core.specs.declared.draw_fault.DrawFault.TheVariants as draw
@@ -9,13 +9,14 @@ use Rattle.tt_core.specs.declared.fault.JobFault.TheVariants as job_of
 use Rattle.tt_core.specs.declared.font_fault.FontFault.{FontFault}
 use Rattle.tt_core.specs.declared.font_fault.FontFault.TheVariants as font
 use Rattle.tt_core.specs.Limits.{point_work_limit}
-use Rattle.tt_core.specs.Outcomes.{FontGives, draw_fault_of_font, draw_job_fault}
+use Rattle.tt_core.specs.Outcomes.{FontGives, GivesUnless, IfTold, draw_fault_of_font, draw_font_fault, draw_job_fault}
 use Rattle.tt_face.specs.Faces.{Face}
 use Rattle.tt_fit.specs.Fitting.{Fitter}
 use Rattle.tt_fit.specs.declared.programs.Fit.{Fit}
 use Rattle.tt_line.specs.Layout.{Placement, text_glyphs}
 use Rattle.tt_picture.specs.Distinct.{distinct}
-use Rattle.tt_picture.specs.Fitted.{fitted_chords, fitted_numbers}
+use Rattle.tt_picture.specs.declared.glyphs.Glyphs.{Glyphs}
+use Rattle.tt_picture.specs.Fitted.{AreFitted, fitted_chords, fitted_numbers}
 use Rattle.tt_picture.specs.Glyphs.{AreDrawn, Glyph, numbers_of}
 use Rattle.tt_picture.specs.Pixels.{Shape}
 use Rattle.tt_picture.specs.Shapes.{crossings_in}
@@ -32,7 +33,7 @@ use Rattle.tt_strike.specs.Refusals.{as_font, as_job, job, refusal}
 use Rattle.tt_strike.specs.Work.{edges_limited, is_bounded, line_fitter, points_in, work_left, work_tested}
 use Rattle.tt_strike.proofs.Costed.{costed}
 use Rattle.tt_strike.proofs.Placed.{of-font, of-job}
-use Rattle.tt_strike.proofs.Stepped.{chords_made, job_of_test, not_of_font}
+use Rattle.tt_strike.proofs.Stepped.{chords_made, job_of_test, line_tells_no_defect, not_of_font}
 use Rattle.tt_strike.proofs.Stopped.{edges_tell, stops, too_much}
 
 -- a stop in opening the fitter, or at the outlines
@@ -74,7 +75,7 @@ points_tell_refusal face a (draw.Job j) fails =
 points_tell_refusal face a draw.Memory fails = tt
 
 -- the numbers of a line's glyphs
-abbrev numbers_in : Placement → List ℕ
+abbrev pub numbers_in : Placement → List ℕ
 numbers_in l = map (λ (g : ℕ × ℕ). g.0) l.glyphs
 
 -- the units of a line are fitted
@@ -98,7 +99,7 @@ units_edges face a l t s shapes is =
     rw (is.work, chords_made s (numbers_in l) t.fitted.items is.fitted is.numbers) refl
 
 -- a stop at their edges
-pub edges_stop_units : (face : Face) (a : Job) (l : Placement) (t : FittedUnits) (s : Fitter) (shapes : List Shape) (e : DrawFault)
+edges_stop_units : (face : Face) (a : Job) (l : Placement) (t : FittedUnits) (s : Fitter) (shapes : List Shape) (e : DrawFault)
     → AreFittedIn face a l t s → shapes_in s l ≡ Ok shapes
     → IfSome (refusal e) (λ r. as_job (edges_limited a.fit t.left (fitted_chords t.fitted.items) (crossings_in shapes)) ≡ Err r)
     → IfSome (refusal e) (λ r. shapes_made face a l ≡ Err r)
@@ -130,7 +131,7 @@ few_edges : (face : Face) (a : Job) (l : Placement) (t : FittedUnits) (s : Fitte
 few_edges face a l t s shapes is passes =
     of-job (edges_tested s a l shapes) tt (rw (units_edges face a l t s shapes is) at passes)
 
-pub units_made : (face : Face) (a : Job) (l : Placement) (t : FittedUnits) (s : Fitter) (shapes : List Shape) (gs : List Glyph)
+units_made : (face : Face) (a : Job) (l : Placement) (t : FittedUnits) (s : Fitter) (shapes : List Shape) (gs : List Glyph)
     → AreFittedIn face a l t s → shapes_in s l ≡ Ok shapes
     → as_job (edges_limited a.fit t.left (fitted_chords t.fitted.items) (crossings_in shapes)) ≡ Ok tt
     → AreDrawn (line_fitter s (numbers_in l)) gs → numbers_of gs ≡ fitted_numbers t.fitted.items → AreMade face a l gs
@@ -145,10 +146,43 @@ units_made face a l t s shapes gs is made passes drawn numbers = record {
   numbers = numbers ∙ is.numbers;
 }
 
-pub units_cost : (face : Face) (a : Job) (l : Placement) (t : FittedUnits) (s : Fitter) (shapes : List Shape) (n : ℕ)
+units_cost : (face : Face) (a : Job) (l : Placement) (t : FittedUnits) (s : Fitter) (shapes : List Shape) (n : ℕ)
     → AreFittedIn face a l t s → shapes_in s l ≡ Ok shapes
     → as_job (edges_limited a.fit t.left (fitted_chords t.fitted.items) (crossings_in shapes)) ≡ Ok tt
     → n ≡ cost_of t.left (crossings_in shapes) → line_cost face a l ≡ Ok n
 units_cost face a l t s shapes n is made passes costs =
     costed face a l s shapes is.setting.exact (units_points face a l t s is) made (few_edges face a l t s shapes is passes)
     ∙ ap Ok (sym (costs ∙ ap (λ left. cost_of left (crossings_in shapes)) is.work))
+
+-- the same of what the test of the edges gives
+abbrev pub Tested : Job → FittedUnits → List Shape → Result Glyphs DrawFault → Type 0
+Tested a t shapes result = GivesUnless refusal (λ (g : Glyphs). tt {0}) result
+    (as_job (edges_limited a.fit t.left (fitted_chords t.fitted.items) (crossings_in shapes)))
+
+pub drawn_made : (face : Face) (a : Job) (l : Placement) (t : FittedUnits) (s : Fitter) (shapes : List Shape) (result : Result Glyphs DrawFault)
+    → AreFittedIn face a l t s → shapes_in s l ≡ Ok shapes → Tested a t shapes result
+    → IfOk result (λ g. (maker : ℕ → Fitter) → AreFitted maker t.fitted.items → AreDrawn maker g.made.items)
+    → IfOk result (λ g. numbers_of g.made.items ≡ fitted_numbers t.fitted.items)
+    → IfOk result (λ g. AreMade face a l g.made.items)
+drawn_made face a l t s shapes (Ok g) is made tested drawn numbers =
+    units_made face a l t s shapes g.made.items is made tested (drawn (line_fitter s (numbers_in l)) is.fitted) numbers
+drawn_made face a l t s shapes (Err e) is made tested drawn numbers = tt
+
+pub drawn_cost : (face : Face) (a : Job) (l : Placement) (t : FittedUnits) (s : Fitter) (shapes : List Shape) (result : Result Glyphs DrawFault)
+    → AreFittedIn face a l t s → shapes_in s l ≡ Ok shapes → Tested a t shapes result
+    → IfOk result (λ g. g.cost ≡ cost_of t.left (crossings_in shapes))
+    → IfOk result (λ g. line_cost face a l ≡ Ok g.cost)
+drawn_cost face a l t s shapes (Ok g) is made tested costs = units_cost face a l t s shapes g.cost is made tested costs
+drawn_cost face a l t s shapes (Err e) is made tested costs = tt
+
+pub drawn_stops : (face : Face) (a : Job) (l : Placement) (t : FittedUnits) (s : Fitter) (shapes : List Shape) (result : Result Glyphs DrawFault)
+    → AreFittedIn face a l t s → shapes_in s l ≡ Ok shapes → Tested a t shapes result
+    → IfTold refusal result (λ r. shapes_made face a l ≡ Err r)
+drawn_stops face a l t s shapes (Ok g) is made tested = tt
+drawn_stops face a l t s shapes (Err e) is made tested = edges_stop_units face a l t s shapes e is made tested
+
+pub drawn_tells_no_defect : (a : Job) (t : FittedUnits) (shapes : List Shape) (result : Result Glyphs DrawFault) → Tested a t shapes result
+    → IfTold draw_font_fault result (λ f. ⊥)
+drawn_tells_no_defect a t shapes (Ok g) tested = tt
+drawn_tells_no_defect a t shapes (Err e) tested =
+    line_tells_no_defect (λ f. ⊥) (edges_limited a.fit t.left (fitted_chords t.fitted.items) (crossings_in shapes)) e tested

@@ -49,7 +49,7 @@ steps_then c s are =
     let ppem = c.args.sized.now.ppem in
     let cmap = c.args.sized.now.face.cmap in
     let gs = label_glyphs cmap c.args.text.now in
-    let steps = (rw (c.deref-3.ensures.value, c.metrics.ensures, c.face.ensures, c.ppem.ensures.exact, c.in_ok-lines.ensures.exact) at
+    let steps = (rw (c.deref-3.ensures.value, c.metrics.ensures, c.face-face.ensures, c.ppem-ppem.ensures.exact, c.in_ok-lines.ensures.exact) at
     (c.in_ok-steps.ensures (advance_with s gs))) (advances_are (line_fitter s gs) c.in_ok-units.units.fitted.items are.fitted) in
     steps ∙ stepped_again m (step_by m ppem (advance_with s gs)) (step_in_pixels m ppem) cmap c.args.text.now
 

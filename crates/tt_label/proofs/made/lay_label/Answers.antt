@@ -22,7 +22,7 @@ pub returns-in_err-laid-clause-exact : goal.returns-in_err-laid-clause-exact
 returns-in_err-laid-clause-exact c =
     let z = c.args.sized.now in
     let a = job_by z c.args.text.now c.args.margin in
-    let gives = rw (c.metrics.ensures, c.face.ensures, c.ppem.ensures.exact, c.in_ok-steps.ensures.exact) at c.in_err-laid.ensures in
+    let gives = rw (c.metrics.ensures, c.face-face.ensures, c.ppem-ppem.ensures.exact, c.in_ok-steps.ensures.exact) at c.in_err-laid.ensures in
     let p = err_from_is_err_and c.from_residual-in_err-laid.result c.from_residual-in_err-laid.ensures.1 in
     rw (p.1, p.2) (refused_as_job (λ (v : Vec Line Global). map placement_of v.items) (λ (v : Vec Laid Global). placements_of v.items)
     (label_placement z.face.metrics a.ppem a.margin c.args.align (stepped_lines z.face.metrics (step_in_pixels z.face.metrics z.ppem) z.face.cmap a.text))
@@ -33,13 +33,13 @@ pub returns-clause-exact : goal.returns-clause-exact
 returns-clause-exact c =
     let z = c.args.sized.now in
     let a = job_by z c.args.text.now c.args.margin in
-    let laid = rw (c.metrics.ensures, c.face.ensures, c.ppem.ensures.exact, c.in_ok-steps.ensures.exact) at c.in_ok-laid.ensures in
+    let laid = rw (c.metrics.ensures, c.face-face.ensures, c.ppem-ppem.ensures.exact, c.in_ok-steps.ensures.exact) at c.in_ok-laid.ensures in
     rw c.in_ok-with_margin.ensures.lines (placed_by_advances z.face a c.args.align c.requires.tested c.requires.unbounded ∙ rw laid refl)
 
 pub returns-clause-laid : goal.returns-clause-laid
 returns-clause-laid c =
     let z = c.args.sized.now in
-    let laid = rw (c.metrics.ensures, c.face.ensures, c.ppem.ensures.exact, ← c.in_ok-with_margin.ensures.lines) at c.in_ok-laid.ensures in
+    let laid = rw (c.metrics.ensures, c.face-face.ensures, c.ppem-ppem.ensures.exact, ← c.in_ok-with_margin.ensures.lines) at c.in_ok-laid.ensures in
     laid_by z.face z.ppem c.args.margin c.args.align c.in_ok-steps.steps.items c.in_ok-with_margin.field-0.items c.requires.margin
     c.in_ok-steps.ensures.some c.in_ok-steps.ensures.few
     (all_flat (λ (g : ℕ × ℕ). g.0 < glyphs_of z.face.metrics) (λ (v : Vec (ℕ × ℕ) Global). v.items) c.in_ok-steps.steps.items c.in_ok-steps.ensures.known)

@@ -40,7 +40,7 @@ glyphs_then c =
 -- the lines are laid out
 placed_then : (c : In_ok-lines) → label_placement c.args.sized.now.face.metrics c.args.sized.now.ppem c.args.margin c.args.align
     (items_of c.in_ok-label.label.steps.items) ≡ Ok (placements_of c.in_ok-lines.lines.items)
-placed_then c = rw (c.metrics.ensures, c.face.ensures, c.ppem.ensures.exact, ← c.in_ok-lines.ensures.lines) at c.in_ok-laid.ensures
+placed_then c = rw (c.metrics.ensures, c.face-face.ensures, c.ppem-ppem.ensures.exact, ← c.in_ok-lines.ensures.lines) at c.in_ok-laid.ensures
 
 laid_then : (c : In_ok-lines) → AreLaid c.args.sized.now.face c.args.margin c.in_ok-lines.lines.items
 laid_then c =
@@ -116,7 +116,7 @@ returns-in_err-laid-clause-stops c =
     let z = c.args.sized.now in
     let a = job_by z c.args.text.now c.args.margin in
     let o = c.in_ok-label.ensures.fitted in
-    let fails = rw (c.metrics.ensures, c.face.ensures, c.ppem.ensures.exact, o.2) at c.in_err-laid.ensures in
+    let fails = rw (c.metrics.ensures, c.face-face.ensures, c.ppem-ppem.ensures.exact, o.2) at c.in_err-laid.ensures in
     let p = err_from_is_err_and c.from_residual-in_err-laid.result c.from_residual-in_err-laid.ensures.1 in
     rw (p.1, p.2) (size_stops_label (λ (v : Vec Line Global). map placement_of v.items) z.face a c.args.align o.0 o.1.outlines.0 c.in_err-laid.field-0.0
     c.requires.tested c.requires.bounded o.1.setting.exact

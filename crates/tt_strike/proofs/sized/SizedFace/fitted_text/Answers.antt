@@ -38,7 +38,7 @@ steps_then c s are =
     let gs = text_glyphs c.args.self.now.face.cmap c.args.text.now in
     let step = step_by m ppem (advance_with s gs) in
     let fs = c.in_ok-units.units.fitted.items in
-    let put = (rw (c.deref-3.ensures.value, c.metrics.ensures, c.face.ensures, c.ppem.ensures.exact) at (c.put_steps.ensures (advance_with s gs)))
+    let put = (rw (c.deref-3.ensures.value, c.metrics.ensures, c.face-face.ensures, c.ppem-ppem.ensures.exact) at (c.put_steps.ensures (advance_with s gs)))
     (advances_are (line_fitter s gs) fs are.fitted) in
     let numbers : map (λ (g : ℕ × ℕ). g.0) c.deref_mut.result.now ≡ gs =
     ap (λ (ps : List (ℕ × ℕ)). map (λ (g : ℕ × ℕ). g.0) ps) c.deref_mut.ensures.value ∙ c.in_ok-steps.ensures.glyphs in

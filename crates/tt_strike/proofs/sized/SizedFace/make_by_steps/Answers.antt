@@ -22,13 +22,13 @@ use Rattle.tt_strike.proofs.sized.SizedFace.make_by_steps.Goals as goal
 -- the text and its margin are tested
 passed : (c : In_ok-test_text) → tested (job_by c.args.self.now c.args.text.now c.args.margin) ≡ Ok tt
 passed c =
-    tested_at c.args.self.now c.args.text.now c.args.margin (rw c.ppem.ensures.exact at c.ppem.ensures.some) (rw c.ppem.ensures.exact at c.ppem.ensures.limit)
+    tested_at c.args.self.now c.args.text.now c.args.margin (rw c.ppem-ppem.ensures.exact at c.ppem-ppem.ensures.some) (rw c.ppem-ppem.ensures.exact at c.ppem-ppem.ensures.limit)
     ∙ rw (c.in_ok-test_margin.ensures.exact, c.in_ok-test_text.ensures.exact) refl
 
 pub returns-in_err-test_margin-clause-stops : goal.returns-in_err-test_margin-clause-stops
 returns-in_err-test_margin-clause-stops c =
     let p = err_from_is_err_and c.from_residual.result c.from_residual.ensures.1 in
-    let at = tested_at c.args.self.now c.args.text.now c.args.margin (rw c.ppem.ensures.exact at c.ppem.ensures.some) (rw c.ppem.ensures.exact at c.ppem.ensures.limit) in
+    let at = tested_at c.args.self.now c.args.text.now c.args.margin (rw c.ppem-ppem.ensures.exact at c.ppem-ppem.ensures.some) (rw c.ppem-ppem.ensures.exact at c.ppem-ppem.ensures.limit) in
     rw (p.1, p.2, at, c.in_err-test_margin.ensures.exact) refl
 
 pub returns-in_err-test_margin-clause-defects : goal.returns-in_err-test_margin-clause-defects
@@ -45,7 +45,7 @@ returns-in_err-test_margin-clause-job c =
 pub returns-in_err-test_text-clause-stops : goal.returns-in_err-test_text-clause-stops
 returns-in_err-test_text-clause-stops c =
     let p = err_from_is_err_and c.from_residual-in_err-test_text.result c.from_residual-in_err-test_text.ensures.1 in
-    let at = tested_at c.args.self.now c.args.text.now c.args.margin (rw c.ppem.ensures.exact at c.ppem.ensures.some) (rw c.ppem.ensures.exact at c.ppem.ensures.limit) in
+    let at = tested_at c.args.self.now c.args.text.now c.args.margin (rw c.ppem-ppem.ensures.exact at c.ppem-ppem.ensures.some) (rw c.ppem-ppem.ensures.exact at c.ppem-ppem.ensures.limit) in
     rw (p.1, p.2, at, c.in_ok-test_margin.ensures.exact, c.in_err-test_text.ensures.exact) refl
 
 pub returns-in_err-test_text-clause-defects : goal.returns-in_err-test_text-clause-defects
@@ -94,7 +94,7 @@ returns-in_err-line-clause-stops c =
     let a = job_by z c.args.text.now c.args.margin in
     let all = goal.at.returns-in_err-line-clause-stops c in
     let o = c.in_ok-fitted.ensures.fitted in
-    let refused = rw (c.metrics.ensures, c.face.ensures, c.ppem.ensures.exact, glyphs_then all.In_ok-fitted, steps_then all.In_ok-fitted) at c.in_err-line.ensures.exact in
+    let refused = rw (c.metrics.ensures, c.face-face.ensures, c.ppem-ppem.ensures.exact, glyphs_then all.In_ok-fitted, steps_then all.In_ok-fitted) at c.in_err-line.ensures.exact in
     let p = err_from_is_err_and c.from_residual-in_err-line.result c.from_residual-in_err-line.ensures.1 in
     rw (p.1, p.2) (extent_stops_text z.face a o.0 o.1.outlines.0 c.in_err-line.field-0.0 (passed all.In_ok-test_text) c.requires.bounded
     o.1.setting.exact (outlines_pass o.0 a (text_glyphs z.face.cmap c.args.text.now) o.1.outlines.0 o.1.points o.1.outlines.1) refused)
@@ -110,7 +110,7 @@ returns-in_err-line-clause-job c =
     let a = job_by z c.args.text.now c.args.margin in
     let all = goal.at.returns-in_err-line-clause-job c in
     let o = c.in_ok-fitted.ensures.fitted in
-    let refused = rw (c.metrics.ensures, c.face.ensures, c.ppem.ensures.exact, steps_then all.In_ok-fitted) at c.in_err-line.ensures.fault in
+    let refused = rw (c.metrics.ensures, c.face-face.ensures, c.ppem-ppem.ensures.exact, steps_then all.In_ok-fitted) at c.in_err-line.ensures.fault in
     let p = err_from_is_err_and c.from_residual-in_err-line.result c.from_residual-in_err-line.ensures.1 in
     rw (p.1, p.2) (extent_by_steps_tells z.face a o.0 o.1.outlines.0 c.in_err-line.field-0.0 c.requires.bounded o.1.setting.exact o.1.outlines.1 refused)
 
@@ -124,7 +124,7 @@ laid_then c passes glyphs steps =
     let z = c.args.self.now in
     let a = job_by z c.args.text.now c.args.margin in
     let o = c.in_ok-fitted.ensures.fitted in
-    let laid = rw (c.metrics.ensures, c.face.ensures, c.ppem.ensures.exact, glyphs, steps) at c.in_ok-line.ensures.exact in
+    let laid = rw (c.metrics.ensures, c.face-face.ensures, c.ppem-ppem.ensures.exact, glyphs, steps) at c.in_ok-line.ensures.exact in
     laid_out_by_steps z.face a o.0 o.1.outlines.0 (placement_of c.in_ok-line.line) passes c.requires.bounded o.1.setting.exact
     (outlines_pass o.0 a (text_glyphs z.face.cmap c.args.text.now) o.1.outlines.0 o.1.points o.1.outlines.1) laid
 
