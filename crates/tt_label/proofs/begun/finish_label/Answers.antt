@@ -1,10 +1,13 @@
-use Rattle.std.proofs.Common.{◌≡◌, ◌∙◌, ap, ℕ, List, map, subst, sym, true}
+use Rattle.std.proofs.Common.{◌≡◌, ◌∙◌, ap, ℕ, List, map, subst, sym, true, Err}
+use Rattle.tt_core.specs.Outcomes.{IfTold}
 use Rattle.tt_label.specs.Gathered.{units_glyphs}
 use Rattle.tt_label.proofs.Finished.{drawn_ready, ready_again}
 use Rattle.tt_label.proofs.UnitGlyphs.{zero_numbers}
 use Rattle.tt_line.specs.Layout.{Placement}
 use Rattle.tt_line.specs.Outcome.{placement_of}
 use Rattle.tt_strike.specs.Fitted.{AreFittedUnits}
+use Rattle.tt_strike.specs.Made.{shapes_made}
+use Rattle.tt_strike.specs.Refusals.{refusal}
 use Rattle.tt_strike.specs.Strikes.{job_by}
 use Rattle.tt_strike.specs.Work.{is_bounded}
 use Rattle.tt_label.proofs.begun.finish_label.Goals.{In-Fitted}
@@ -39,7 +42,11 @@ returns-in-Fitted-clause-ready c =
     (placement_of c.args.line.now.line) c.drawn_units.result c.requires.stage.1.line c.drawn_units.ensures.made c.drawn_units.ensures.cost
 
 pub returns-in-Fitted-clause-stops : goal.returns-in-Fitted-clause-stops
-returns-in-Fitted-clause-stops c = rw c.requires.stage.1.line at c.drawn_units.ensures.stops
+returns-in-Fitted-clause-stops c =
+    let z = c.args.sized.now in
+    let a = job_by z c.args.text.now c.args.line.now.margin in
+    let P : Placement → Type 0 = λ l. IfTold refusal c.drawn_units.result (λ r. shapes_made z.face a l ≡ Err r) in
+    subst P c.requires.stage.1.line c.drawn_units.ensures.stops
 
 pub returns-in-Made-clause-ready : goal.returns-in-Made-clause-ready
 returns-in-Made-clause-ready c = λ t other.
