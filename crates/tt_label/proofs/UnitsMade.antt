@@ -6,12 +6,10 @@ use Rattle.std.proofs.lemmas.List.Sums.{sum_by-cons}
 use Rattle.std.specs.List.{flat_map, sum_by}
 use Rattle.std.specs.Prelude.{All, IfSome}
 use Rattle.tt_core.specs.declared.draw_fault.DrawFault.{DrawFault}
-use Rattle.tt_core.specs.declared.font_fault.FontFault.{FontFault}
-use Rattle.tt_core.specs.declared.font_fault.FontFault.TheVariants as font
 use Rattle.tt_core.specs.Chains.{was-err}
 use Rattle.tt_core.specs.Limits.{text_limit}
 use Rattle.tt_core.specs.declared.fault.JobFault.{JobFault}
-use Rattle.tt_core.specs.Outcomes.{FontGives, IfTold, draw_fault_of_font}
+use Rattle.tt_core.specs.Outcomes.{IfTold}
 use Rattle.tt_face.specs.Faces.{Face}
 use Rattle.tt_fit.specs.Fitting.{Fitter}
 use Rattle.tt_fit.specs.outline.Outline.{Outline}
@@ -26,14 +24,13 @@ use Rattle.tt_picture.specs.Glyphs.{Glyph}
 use Rattle.tt_picture.specs.Steps.{step_by}
 use Rattle.tt_rows.specs.declared.unit.RowUnit.{RowUnit}
 use Rattle.tt_label.specs.Begun.{begun_outcome}
+use Rattle.tt_strike.specs.Fitted.{outlines_made}
 use Rattle.tt_strike.specs.Job.{Job, tested}
 use Rattle.tt_strike.specs.Made.{AreMade, shapes_made}
-use Rattle.tt_strike.specs.Picture.{advance_with, outlines_tested, setting, setting_in}
+use Rattle.tt_strike.specs.Picture.{advance_with, outlines_tested, setting_in}
 use Rattle.tt_strike.specs.Refusals.{Refused, as_font, job, refusal}
-use Rattle.tt_strike.specs.Strikes.{IsCacheOf, SizedFace, job_by, job_with}
+use Rattle.tt_strike.specs.Strikes.{SizedFace, job_by, job_with}
 use Rattle.tt_strike.specs.Work.{is_bounded}
-use Rattle.tt_strike_kept.specs.Kept.{Kept}
-use Rattle.tt_picture.specs.Cached.{IsCacheFor}
 use Rattle.tt_strike.proofs.Stopped.{stops}
 
 -- the steps of the units
@@ -46,16 +43,18 @@ pub unbounded_step : (face : Face) (a : Job) (s : Fitter) → is_bounded a.fit �
 unbounded_step face a s is = rw is refl
 
 -- where the making of the glyphs stops
-pub setting_stops_units : (face : Face) (a : Job) (e : FontFault) → FontGives {X = Fitter} (λ f. f) (Err e) (setting_in face a)
-    → IfSome (refusal (draw_fault_of_font e)) (λ r. units_made face a ≡ Err r)
-setting_stops_units face a (font.Font f) fails = rw fails refl
-setting_stops_units face a font.Memory fails = tt
+no_units : (face : Face) (a : Job) (r : Refused) → is_bounded a.fit ≡ true → outlines_made face a.ppem a.fit (units_glyphs face a) ≡ Err r
+    → units_made face a ≡ Err r
+no_units face a r bounded fails = elim (was-err (as_font (setting_in face a)) _ r fails) [
+  | inl first ↦ rw first refl
+  | inr later ↦ rw (later.first, bounded, later.rest) refl
+]
 
-pub outlines_stop_units : (face : Face) (a : Job) (s : Fitter) (e : DrawFault) → is_bounded a.fit ≡ true → setting_in face a ≡ Ok s
-    → IfSome (refusal e) (λ r. outlines_tested s a.fit (units_glyphs face a) ≡ Err r)
+pub outlines_stop_units : (face : Face) (a : Job) (e : DrawFault) → is_bounded a.fit ≡ true
+    → IfSome (refusal e) (λ r. outlines_made face a.ppem a.fit (units_glyphs face a) ≡ Err r)
     → IfSome (refusal e) (λ r. units_made face a ≡ Err r)
-outlines_stop_units face a s e bounded there =
-    stops e (outlines_tested s a.fit (units_glyphs face a)) (units_made face a) (λ r fails. rw (there, bounded, fails) refl)
+outlines_stop_units face a e bounded =
+    stops e (outlines_made face a.ppem a.fit (units_glyphs face a)) (units_made face a) (λ r fails. no_units face a r bounded fails)
 
 pub outlines_make_units : (face : Face) (a : Job) (s : Fitter) (os : List Outline) → is_bounded a.fit ≡ true → setting_in face a ≡ Ok s
     → outlines_tested s a.fit (units_glyphs face a) ≡ Ok os → units_made face a ≡ Ok s
@@ -148,11 +147,6 @@ pub stopped_textless : (z : SizedFace) (text : List ℕ) (margin k : ℕ) (gs : 
     → IfSome (refusal e) (λ r. shapes_made z.face (job_with z k) l ≡ Err r)
     → IfSome (refusal e) (λ r. shapes_made z.face (job_by z text margin) (gathered gs) ≡ Err r)
 stopped_textless z text margin k gs l e at one fails = rw one at fails
-
--- the cache of a font at a size is that of its fitter
-pub cache_for : (z : SizedFace) (s : Fitter) (c : Option Kept) → setting z.face z.ppem z.fit ≡ Ok s → IsCacheOf z c → IsCacheFor s c
-cache_for z s None there own = tt
-cache_for z s (Some k) there own = own s there
 
 -- steps change no glyph
 same_glyphs : (m : Metrics) (step : ℕ → ℤ → ℕ) (us : List RowUnit) → unit_glyphs (stepped_units m step us) ≡ unit_glyphs us

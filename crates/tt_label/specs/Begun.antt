@@ -1,6 +1,6 @@
 -- No part of the standard: a text that is broken into rows, whose glyphs are made before its rows are laid out.
 use Rattle.std.specs.List.{sum_by}
-use Rattle.std.specs.Prelude.{◌≡◌, ◌≤◌, false, All, length, map, Result, Ok}
+use Rattle.std.specs.Prelude.{◌≡◌, ◌≤◌, true, false, All, length, map, Result, Ok}
 use Rattle.tt_core.specs.Limits.{text_limit}
 use Rattle.tt_core.specs.Outcomes.{◌>>=◌}
 use Rattle.tt_face.specs.Faces.{Face}
@@ -8,10 +8,11 @@ use Rattle.tt_fit.specs.Fitting.{Fitter}
 use Rattle.tt_label.specs.declared.begun.BegunLabel.{BegunLabel}
 use Rattle.tt_label.specs.declared.begun.Stage.{Stage}
 use Rattle.tt_label.specs.declared.begun.Stage.TheVariants as stage
-use Rattle.tt_label.specs.Gathered.{AreBegun, AreReady, gathered, units_glyphs, units_in, units_made}
+use Rattle.tt_label.specs.Gathered.{AreReady, gathered, units_glyphs, units_in, units_made}
 use Rattle.tt_line.specs.Outcome.{placement_of}
 use Rattle.tt_rows.specs.Rows.{one_at_least}
 use Rattle.tt_strike.specs.declared.laid.Laid.{Laid}
+use Rattle.tt_strike.specs.Fitted.{AreFittedUnits}
 use Rattle.tt_strike.specs.Job.{Job, tested}
 use Rattle.tt_strike.specs.Picture.{setting_in}
 use Rattle.tt_strike.specs.Refusals.{Refused, as_job}
@@ -23,7 +24,7 @@ begun_outcome face a = as_job (tested a) >>= λ u. units_made face a
 
 -- how far the glyphs of a text are made, by this fitter
 abbrev pub HasStage : Face → Job → Fitter → Stage → Type 0
-HasStage face a s (stage.Fitted t left) = AreBegun a s (units_glyphs face a) t.places.items t.fitted.items left
+HasStage face a s (stage.Fitted t) = (is_bounded a.fit ≡ true) × AreFittedUnits face a.ppem a.fit (units_glyphs face a) t s
 HasStage face a s (stage.Made g) = (is_bounded a.fit ≡ false) × AreReady face a s (units_glyphs face a) g.made.items g.cost
 
 -- what is needed to draw them

@@ -1,25 +1,21 @@
 -- No part of the standard: the glyphs of a text that is broken into rows. They are made one after the other, as those of one
 -- line, whatever rows they stand in.
-use Rattle.std.specs.Prelude.{◌≡◌, ℕ, ℤ, pos, if◌then◌else◌, true, List, map, Option, Result, Ok}
-use Rattle.tt_core.specs.Limits.{point_work_limit}
+use Rattle.std.specs.Prelude.{◌≡◌, ℕ, ℤ, pos, if◌then◌else◌, List, map, Result, Ok}
 use Rattle.tt_core.specs.Outcomes.{◌>>=◌}
 use Rattle.tt_face.specs.Faces.{Face}
 use Rattle.tt_fit.specs.Fitting.{Fitter}
-use Rattle.tt_fit.specs.outline.Outline.{Outline}
 use Rattle.tt_label_rows.specs.Units.{all_glyphs, stepped_lines, text_units}
 use Rattle.tt_line.specs.Layout.{Placement}
 use Rattle.tt_line.specs.Steps.{step_in_pixels}
-use Rattle.tt_picture.specs.Distinct.{distinct}
-use Rattle.tt_picture.specs.Fitted.{AreFitted, FittedGlyph, fitted_numbers}
-use Rattle.tt_picture.specs.Glyphs.{ArePlaces, Glyph}
+use Rattle.tt_picture.specs.Glyphs.{Glyph}
 use Rattle.tt_picture.specs.Steps.{step_by}
 use Rattle.tt_rows.specs.declared.unit.RowUnit.{RowUnit}
 use Rattle.tt_strike.specs.Costs.{line_cost}
 use Rattle.tt_strike.specs.Job.{Job}
 use Rattle.tt_strike.specs.Made.{AreMade}
-use Rattle.tt_strike.specs.Picture.{advance_with, line_shapes, outlines_in, outlines_tested, setting_in}
+use Rattle.tt_strike.specs.Picture.{advance_with, line_shapes, outlines_tested, setting_in}
 use Rattle.tt_strike.specs.Refusals.{Refused, as_font}
-use Rattle.tt_strike.specs.Work.{is_bounded, lays_after_glyphs, line_fitter, points_in, work_left, work_tested}
+use Rattle.tt_strike.specs.Work.{lays_after_glyphs}
 
 -- some glyphs as a line, each at pen 0
 abbrev pub gathered : List ℕ → Placement
@@ -51,16 +47,6 @@ units_made face a =
     as_font (setting_in face a) >>= λ s.
     glyphs_tested s a (units_glyphs face a) >>= λ u.
     Ok s
-
--- some glyphs are fitted, and not drawn yet: these, with the table of their places, and this much work remains
-pub record AreBegun (a : Job) (s : Fitter) (gs : List ℕ) (table : List ℕ) (fs : List FittedGlyph) (left : Option ℕ) : Type 0 where
-  pub bounded : is_bounded a.fit ≡ true
-  pub points : work_tested a.fit point_work_limit (points_in s gs) ≡ Ok tt
-  pub outlines : (os : List Outline) × (outlines_in s gs ≡ Ok os)
-  pub places : ArePlaces table (fitted_numbers fs)
-  pub numbers : fitted_numbers fs ≡ distinct gs
-  pub fitted : AreFitted (line_fitter s gs) fs
-  pub work : left ≡ work_left s gs
 
 -- some glyphs are drawn, by this fitter and at this cost
 pub record AreReady (face : Face) (a : Job) (s : Fitter) (gs : List ℕ) (made : List Glyph) (n : ℕ) : Type 0 where

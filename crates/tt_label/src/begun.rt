@@ -17,20 +17,20 @@ ghost use Rattle.tt_strike.specs.Refusals.{refusal};
 ghost use Rattle.tt_strike.specs.Strikes.{IsCacheOf, job_by};
 ghost use Rattle.tt_strike.specs.Work.{is_bounded};
 
-use crate::gathering::{FittedGlyphs, fit_all, fitted_lines};
+use crate::gathering::fitted_lines;
 use std::alloc::{AllocError, Global};
 use tt_core::DrawFault;
 use tt_label_rows::{all_glyphs, stepped_lines, text_units};
 use tt_line::Line;
 use tt_picture::{Cache, Glyphs};
 use tt_rows::RowUnit;
-use tt_strike::{Laid, SizedFace, is_bounded, test_margin, test_text, tested_edges};
+use tt_strike::{FittedUnits, Laid, SizedFace, is_bounded, test_margin, test_text};
 
 /// How far the glyphs of a text are made.
 #[derive(Drop)]
 pub enum Stage {
-    /// The glyphs are fitted, and this much work remains; only where work is bounded.
-    Fitted(FittedGlyphs, Option<u64>),
+    /// The glyphs are fitted; only where work is bounded.
+    Fitted(FittedUnits),
     /// The glyphs are made; only where work is not bounded.
     Made(Glyphs),
 }
@@ -83,16 +83,12 @@ fn begin_by_steps(
     let source = sized.source;
     let units = text_units(source.alloc, source.face.cmap(), text)?;
     let glyphs = all_glyphs(source.alloc, &units)?;
-    let mut fitter = sized.maker.take(&source)?;
-    let begun = fitter.work();
-    let fitted = fit_all(&source, &mut sized.table, &mut fitter, &glyphs, cache)?;
-    let left = fitter.work();
-    sized.maker.give_back(fitter, begun);
+    let fitted = sized.fit_units(&glyphs, cache)?;
     let lines = fitted_lines(&source, &fitted, &units)?;
     Ok(BegunLabel {
         lines,
         gathered: gathered_line(glyphs, margin),
-        stage: Stage::Fitted(fitted, left),
+        stage: Stage::Fitted(fitted),
     })
 }
 
@@ -170,11 +166,8 @@ pub fn finish_label(
     ensures limit { limit_of cache.new ≡ limit_of cache.old }
     ensures same { sized.new ≡ sized.old }
 {
-    let source = sized.source;
-    let (glyphs, left) = match stage {
-        Stage::Made(glyphs) => return Ok(glyphs),
-        Stage::Fitted(glyphs, left) => (glyphs, left),
-    };
-    let FittedGlyphs { places, fitted } = glyphs;
-    tested_edges(source.alloc, source.fit, places, fitted, line, left, cache)
+    match stage {
+        Stage::Made(glyphs) => Ok(glyphs),
+        Stage::Fitted(units) => sized.drawn_units(units, line, cache),
+    }
 }

@@ -1,4 +1,4 @@
-//! The glyphs of a text that is broken into rows: fitted, and their steps.
+//! The units of a text that is broken into rows, with the steps of their glyphs, which are fitted.
 
 ghost use Rattle.std.specs.Prelude.{◌≡◌, ℕ, ℤ, ◌<◌, ◌≤◌, true, length, map, All, Ok, Err, IfOk, List, pos};
 ghost use Rattle.tt_core.specs.Limits.{point_work_limit, size_limit, text_limit};
@@ -16,54 +16,12 @@ ghost use Rattle.tt_strike.specs.Picture.{outlines_in, outlines_tested};
 ghost use Rattle.tt_strike.specs.Refusals.{refusal};
 ghost use Rattle.tt_strike.specs.Work.{is_bounded, line_fitter, points_in, started, work_tested};
 
-use std::alloc::{AllocError, Global};
-use tt_core::DrawFault;
-use tt_fit::Fitter;
+use std::alloc::AllocError;
 use tt_label_rows::glyph_line;
 use tt_metrics::Metrics;
-use tt_picture::{Cache, FittedGlyph, fit_glyphs};
+use tt_picture::FittedGlyph;
 use tt_rows::RowUnit;
-use tt_strike::{DistinctGlyphs, FitterSource, PlaceTable, charge_points, distinct, put_steps};
-
-/// The distinct glyphs of a text, fitted.
-#[derive(Drop)]
-pub struct FittedGlyphs {
-    /// For each glyph of the font 0, or one more than its place in `fitted`.
-    pub places: Vec<u16>,
-    /// The distinct glyphs, in order of first appearance.
-    pub fitted: Vec<FittedGlyph>,
-}
-
-/// Some glyphs, fitted, where work is bounded: from the cache where their costs are left, else made. Errors, the first of:
-/// WorkLarge of their points; those of the glyphs in their order. Memory may come at any allocation.
-pub(crate) fn fit_all(
-    source: &FitterSource,
-    table: &mut PlaceTable,
-    fitter: &mut Fitter,
-    glyphs: &[(u16, u32)],
-    cache: &Cache,
-) -> Result<FittedGlyphs, DrawFault>
-    requires known { All (λ g. g.0 < glyphs_of source.now.face.now.metrics) glyphs.now }
-    requires few { length glyphs.now ≤ text_limit }
-    requires glyphs { fitter.old.tables.glyphs ≡ glyphs_of source.now.face.now.metrics }
-    requires bounded { is_bounded source.now.fit ≡ true }
-    requires cache { IsCacheFor fitter.old cache.now }
-    ensures fitted { IfOk result (λ t. AreFitted (line_fitter fitter.old (map (λ g. g.0) glyphs.now)) t.fitted.items) }
-    ensures numbers { IfOk result (λ t. fitted_numbers t.fitted.items ≡ distinct (map (λ g. g.0) glyphs.now)) }
-    ensures places { IfOk result (λ t. ArePlaces t.places.items (fitted_numbers t.fitted.items)) }
-    ensures room { IfOk result (λ t. length t.places.items ≡ glyphs_of source.now.face.now.metrics) }
-    ensures outlines { IfOk result (λ t. (work_tested source.now.fit point_work_limit (points_in fitter.old (map (λ g. g.0) glyphs.now)) ≡ Ok tt)
-        × ((os : List Outline) × (outlines_in fitter.old (map (λ g. g.0) glyphs.now) ≡ Ok os))) }
-    ensures after { IfOk result (λ t. fitter.new ≡ fitter_after (started fitter.old (map (λ g. g.0) glyphs.now)) (distinct (map (λ g. g.0) glyphs.now))) }
-    ensures stops { IfTold refusal result (λ r. outlines_tested fitter.old source.now.fit (map (λ g. g.0) glyphs.now) ≡ Err r) }
-{
-    let count = source.face.metrics().glyphs();
-    let met = distinct(source.alloc, table, count, glyphs)?;
-    let DistinctGlyphs { places, numbers } = met;
-    charge_points(source.fit, fitter, &numbers, cache)?;
-    let fitted = fit_glyphs(source.alloc, fitter, &numbers, cache)?;
-    Ok(FittedGlyphs { places, fitted })
-}
+use tt_strike::{FittedUnits, FitterSource, put_steps};
 
 /// The step of a glyph at the end of a row.
 fn plain_step(
@@ -87,7 +45,7 @@ fn plain_step(
 /// The units of a line with the steps of their glyphs, which are fitted; kerned steps stand in `line`. Error: Memory.
 fn put_units(
     source: &FitterSource,
-    glyphs: &FittedGlyphs,
+    glyphs: &FittedUnits,
     units: &[RowUnit],
     line: &[(u16, u32)],
 ) -> Result<Vec<RowUnit>, AllocError>
@@ -100,7 +58,7 @@ fn put_units(
         → v.items ≡ stepped_units source.now.face.now.metrics (step_by source.now.face.now.metrics source.now.ppem advance) units.now) }
 {
     let metrics = source.face.metrics();
-    let FittedGlyphs { places, fitted } = glyphs;
+    let FittedUnits { places, fitted, .. } = glyphs;
     let mut made = Vec::with_capacity(source.alloc, units.len())?;
     for i in 0..units.len() {
         let unit = units[i];
@@ -117,7 +75,7 @@ fn put_units(
 /// The units of a line with the steps of their glyphs, which are fitted. Error: Memory.
 fn stepped_line(
     source: &FitterSource,
-    glyphs: &FittedGlyphs,
+    glyphs: &FittedUnits,
     units: &[RowUnit],
 ) -> Result<Vec<RowUnit>, AllocError>
     requires places { ArePlaces glyphs.now.places.items (fitted_numbers glyphs.now.fitted.items) }
@@ -127,7 +85,7 @@ fn stepped_line(
         → v.items ≡ stepped_units source.now.face.now.metrics (step_by source.now.face.now.metrics source.now.ppem advance) units.now) }
 {
     let metrics = source.face.metrics();
-    let FittedGlyphs { places, fitted } = glyphs;
+    let FittedUnits { places, fitted, .. } = glyphs;
     let mut line = glyph_line(source.alloc, units)?;
     put_steps(metrics, source.ppem, places, fitted, &mut line);
     put_units(source, glyphs, units, &line)
@@ -136,7 +94,7 @@ fn stepped_line(
 /// The units of some lines with the steps of their glyphs, which are fitted. Error: Memory.
 pub(crate) fn fitted_lines(
     source: &FitterSource,
-    glyphs: &FittedGlyphs,
+    glyphs: &FittedUnits,
     lines: &[Vec<RowUnit>],
 ) -> Result<Vec<Vec<RowUnit>>, AllocError>
     requires places { ArePlaces glyphs.now.places.items (fitted_numbers glyphs.now.fitted.items) }

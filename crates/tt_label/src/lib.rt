@@ -2,8 +2,8 @@
 //!
 //! ```text
 //! joining.rt  the glyphs of several lines as those of one line
-//! fitting.rt  the glyphs of a label, fitted, and their steps
-//! gathering.rt  the glyphs of a text that is broken into rows, and the steps of its units
+//! fitting.rt  the lines of a text, whose glyphs are fitted, and their steps
+//! gathering.rt  the units of a text that is broken into rows, with the steps of their glyphs
 //! begun.rt    these units and glyphs, made once for all rows
 //! made.rt     the lines of a label, laid out, and their glyphs
 //! growing.rt  the columns and rows that the ink of all lines needs
@@ -26,7 +26,6 @@ mod placing;
 mod widths;
 
 pub use begun::{BegunLabel, Stage, begin_label, finish_label};
-pub use gathering::FittedGlyphs;
 pub use growing::label_ink;
 pub use labelling::label;
 pub use made::with_margin;

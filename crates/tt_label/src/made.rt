@@ -14,13 +14,13 @@ ghost use Rattle.tt_strike.specs.Refusals.{refusal};
 ghost use Rattle.tt_strike.specs.Strikes.{IsCacheOf, job_by};
 ghost use Rattle.tt_strike.specs.Work.{is_bounded};
 
-use crate::fitting::{FittedLabel, fit_label};
+use crate::fitting::{FittedLabel, fitted_label, label_advances};
 use crate::joining::{joint_line, joint_of};
 use std::alloc::{AllocError, Global};
 use tt_core::DrawFault;
-use tt_line::{Align, Line, label_steps, lay_lines};
+use tt_line::{Align, Line, lay_lines};
 use tt_picture::{Cache, Glyphs};
-use tt_strike::{Laid, SizedFace, is_bounded, test_margin, test_text, tested_edges};
+use tt_strike::{Laid, SizedFace, is_bounded, test_margin, test_text};
 
 /// The lines of a label in its picture, and their distinct glyphs.
 #[derive(Drop)]
@@ -64,24 +64,15 @@ fn make_by_steps(
     ensures limit { limit_of cache.new ≡ limit_of cache.old }
     ensures same { sized.new ≡ sized.old }
 {
-    let source = sized.source;
-    let steps = label_steps(source.alloc, &mut sized.known, text)?;
-    let mut fitter = sized.maker.take(&source)?;
-    let begun = fitter.work();
-    let label = fit_label(&source, &mut sized.table, &mut fitter, steps, cache)?;
-    let left = fitter.work();
-    sized.maker.give_back(fitter, begun);
-    let FittedLabel {
-        steps,
-        places,
-        fitted,
-    } = label;
-    let metrics = source.face.metrics();
-    let laid = lay_lines(source.alloc, metrics, steps, source.ppem, margin, align)?;
-    let lines = with_margin(source.alloc, laid, margin)?;
-    let joined = joint_line(source.alloc, &lines, margin)?;
-    let joint = joint_of(&lines, &joined);
-    let glyphs = tested_edges(source.alloc, source.fit, places, fitted, joint, left, cache)?;
+    let alloc = sized.alloc();
+    let face = sized.face();
+    let ppem = sized.ppem();
+    let label = fitted_label(sized, text, cache)?;
+    let FittedLabel { steps, units } = label;
+    let laid = lay_lines(alloc, face.metrics(), steps, ppem, margin, align)?;
+    let lines = with_margin(alloc, laid, margin)?;
+    let joined = joint_line(alloc, &lines, margin)?;
+    let glyphs = sized.drawn_units(units, joint_of(&lines, &joined), cache)?;
     Ok(MadeLabel { lines, glyphs })
 }
 
@@ -100,11 +91,12 @@ fn lay_label(
     ensures laid { IfOk result (λ v. AreLaid sized.old.face margin v.items) }
     ensures same { sized.new ≡ sized.old }
 {
-    let source = sized.source;
-    let metrics = source.face.metrics();
-    let steps = label_steps(source.alloc, &mut sized.known, text)?;
-    let laid = lay_lines(source.alloc, metrics, steps, source.ppem, margin, align)?;
-    Ok(with_margin(source.alloc, laid, margin)?)
+    let alloc = sized.alloc();
+    let face = sized.face();
+    let ppem = sized.ppem();
+    let steps = label_advances(sized, text)?;
+    let laid = lay_lines(alloc, face.metrics(), steps, ppem, margin, align)?;
+    Ok(with_margin(alloc, laid, margin)?)
 }
 
 /// The lines of a text, laid out by advances, and then their glyphs; only where work is not bounded. Errors, the first of:

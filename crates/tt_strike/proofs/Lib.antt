@@ -7,6 +7,7 @@ pub mod Caches
 pub mod Textless
 pub mod Made
 pub mod Enlarged
+pub mod Fitted
 pub mod Costed
 pub mod OneLine
 pub mod Placed

@@ -25,40 +25,35 @@ use Rattle.tt_line.specs.Layout.{Placement, laid_at, text_glyphs, IsRefusal}
 use Rattle.tt_picture.specs.Distinct.{distinct, distinct_after, is_among, with_glyph}
 use Rattle.tt_picture.specs.Fitted.{AreFitted, FittedGlyph, fitted_chords, fitted_numbers}
 use Rattle.tt_picture.specs.Steps.{glyph_chords, outlines_by}
-use Rattle.tt_picture.specs.Pixels.{Shape}
-use Rattle.tt_picture.specs.Shapes.{crossings_in, glyph_shape}
-use Rattle.tt_picture.proofs.Among.{all_among}
-use Rattle.tt_picture.proofs.Outlines.{chords_are, shapes_of_line}
+use Rattle.tt_picture.proofs.Outlines.{chords_are}
 use Rattle.tt_strike.specs.Defects.{IsGlyphDefect, IsLineDefect, IsLineRefusal, steps_extent}
+use Rattle.tt_strike.specs.Fitted.{outlines_made}
 use Rattle.tt_strike.specs.Job.{Job, tested}
 use Rattle.tt_strike.specs.Made.{text_shapes}
-use Rattle.tt_strike.specs.Picture.{edges_tested, laid_out, outlines_in, outlines_tested, placed_by_steps, points_tested, setting_in, shapes_in, steps_in}
-use Rattle.tt_strike.specs.Refusals.{as_font, as_job, job, refusal}
+use Rattle.tt_strike.specs.Picture.{laid_out, outlines_in, outlines_tested, placed_by_steps, setting_in, steps_in}
+use Rattle.tt_strike.specs.Refusals.{Refused, as_font, as_job, job, refusal}
 use Rattle.tt_strike.specs.Refusals as outcome
-use Rattle.tt_strike.specs.Work.{chords_in, edges_limited, is_bounded, line_fitter, points_in, work_left, work_tested}
-use Rattle.tt_strike.proofs.Placed.{placed_by_its_steps, placed_of}
-use Rattle.tt_strike.proofs.Stopped.{edges_stop, edges_tell, too_much}
+use Rattle.tt_strike.specs.Work.{chords_in, is_bounded, line_fitter, points_in, work_tested}
+use Rattle.tt_strike.proofs.Placed.{placed_by_its_steps}
+use Rattle.tt_strike.proofs.Stopped.{stops, stops_after}
 
 -- a text that is tested is laid out by its steps
 laid_by : (face : Face) (a : Job) → tested a ≡ Ok tt → is_bounded a.fit ≡ true → laid_out face a ≡ placed_by_steps face a
 laid_by face a passes bounded = rw passes (placed_by_its_steps face a bounded)
 
--- a stop in opening the fitter, in the outlines, and at the extent of the picture
-pub setting_stops_text : (face : Face) (a : Job) (e : FontFault) → tested a ≡ Ok tt → is_bounded a.fit ≡ true
-    → FontGives {X = Fitter} (λ f. f) (Err e) (setting_in face a)
-    → IfSome (refusal (draw_fault_of_font e)) (λ r. text_shapes face a ≡ Err r)
+-- a stop at the outlines, and at the extent of the picture
+no_outlines : (face : Face) (a : Job) (r : Refused) → outlines_made face a.ppem a.fit (text_glyphs face.cmap a.text) ≡ Err r
+    → placed_by_steps face a ≡ Err r
 unfolding placed_by_steps
-setting_stops_text face a (font.Font f) passes bounded fails = rw (laid_by face a passes bounded, fails) refl
-setting_stops_text face a font.Memory passes bounded fails = tt
+no_outlines face a r fails =
+    stops_after (as_font (setting_in face a)) (λ s. outlines_tested s a.fit (text_glyphs face.cmap a.text)) _ r fails
 
-pub outlines_stop_text : (face : Face) (a : Job) (s : Fitter) (e : DrawFault) → tested a ≡ Ok tt → is_bounded a.fit ≡ true
-    → setting_in face a ≡ Ok s
-    → IfSome (refusal e) (λ r. outlines_tested s a.fit (text_glyphs face.cmap a.text) ≡ Err r)
+pub units_stop_text : (face : Face) (a : Job) (e : DrawFault) → tested a ≡ Ok tt → is_bounded a.fit ≡ true
+    → IfSome (refusal e) (λ r. outlines_made face a.ppem a.fit (text_glyphs face.cmap a.text) ≡ Err r)
     → IfSome (refusal e) (λ r. text_shapes face a ≡ Err r)
-unfolding placed_by_steps
-outlines_stop_text face a s (draw.Font f) passes bounded there fails = rw (laid_by face a passes bounded, there, fails) refl
-outlines_stop_text face a s (draw.Job j) passes bounded there fails = rw (laid_by face a passes bounded, there, fails) refl
-outlines_stop_text face a s draw.Memory passes bounded there fails = tt
+units_stop_text face a e passes bounded =
+    stops e (outlines_made face a.ppem a.fit (text_glyphs face.cmap a.text)) (text_shapes face a)
+    (λ r fails. rw (laid_by face a passes bounded, no_outlines face a r fails) refl)
 
 pub extent_stops_text : (face : Face) (a : Job) (s : Fitter) (os : List Outline) (j : JobFault) → tested a ≡ Ok tt
     → is_bounded a.fit ≡ true → setting_in face a ≡ Ok s → outlines_tested s a.fit (text_glyphs face.cmap a.text) ≡ Ok os
@@ -76,12 +71,6 @@ pub laid_out_by_steps : (face : Face) (a : Job) (s : Fitter) (os : List Outline)
 unfolding placed_by_steps
 laid_out_by_steps face a s os l passes bounded there made laid =
     laid_by face a passes bounded ∙ rw (there, made, laid) refl
-
-pub edges_stop_text : (face : Face) (a : Job) (l : Placement) (s : Fitter) (glyphs : List Shape) (j : JobFault)
-    → laid_out face a ≡ Ok l → setting_in face a ≡ Ok s → as_job (points_tested s a l) ≡ Ok tt
-    → shapes_in s l ≡ Ok glyphs → edges_tested s a l glyphs ≡ Err j → text_shapes face a ≡ Err (job j)
-edges_stop_text face a l s glyphs j laid there few made refused =
-    rw laid (edges_stop face a l s glyphs j there few made refused)
 
 -- the glyphs among the distinct ones of a text are glyphs of the text
 abbrev IsAt : List ℕ → ℕ → Type 0
@@ -161,11 +150,11 @@ not_of_job : {X : Type 0} (r : Result X JobFault) (f : Fault) → as_job r ≡ E
 not_of_job (Ok x) f was = absurd cc
 not_of_job (Err j) f was = absurd cc
 
-job_of_test : {X : Type 0} (r : Result X JobFault) (j : JobFault) → as_job r ≡ Err (job j) → r ≡ Err j
+pub job_of_test : {X : Type 0} (r : Result X JobFault) (j : JobFault) → as_job r ≡ Err (job j) → r ≡ Err j
 job_of_test (Ok x) j was = absurd cc
 job_of_test (Err i) j was = cc
 
-not_of_font : {X : Type 0} (r : Result X Fault) (j : JobFault) → as_font r ≡ Err (job j) → ⊥
+pub not_of_font : {X : Type 0} (r : Result X Fault) (j : JobFault) → as_font r ≡ Err (job j) → ⊥
 not_of_font (Ok x) j was = absurd cc
 not_of_font (Err f) j was = absurd cc
 
@@ -179,21 +168,6 @@ outlines_tell_defect face a s gs (draw.Font f) there fails =
     ]
 outlines_tell_defect face a s gs (draw.Job j) there fails = tt
 outlines_tell_defect face a s gs draw.Memory there fails = tt
-
-pub outlines_tell_refusal : (face : Face) (a : Job) (s : Fitter) (e : DrawFault) → setting_in face a ≡ Ok s
-    → IfSome (refusal e) (λ r. outlines_tested s a.fit (text_glyphs face.cmap a.text) ≡ Err r)
-    → IfSome (draw_job_fault e) (IsLineRefusal face a)
-outlines_tell_refusal face a s (draw.Font f) there fails = tt
-outlines_tell_refusal face a s (draw.Job j) there fails =
-    let gs = text_glyphs face.cmap a.text in
-    let points = work_tested a.fit point_work_limit (points_in s gs) in
-    elim (was-err (as_job points) _ (job j) fails) [
-      | inl first ↦
-          let parts = too_much a.fit point_work_limit (points_in s gs) j (job_of_test points j first) in
-          rw parts.0 (parts.1, inl (rw there parts.2))
-      | inr later ↦ absurd (not_of_font (outlines_in s gs) j later.rest)
-    ]
-outlines_tell_refusal face a s draw.Memory there fails = tt
 
 -- a refused extent is a refusal of the text by its font
 pub extent_by_steps_tells : (face : Face) (a : Job) (s : Fitter) (os : List Outline) (j : JobFault) → is_bounded a.fit ≡ true
@@ -220,67 +194,12 @@ pub outlines_pass : (s : Fitter) (a : Job) (gs : List ℕ) (os : List Outline)
     → outlines_tested s a.fit gs ≡ Ok os
 outlines_pass s a gs os few made = rw (few, made) refl
 
--- a text that is laid out by the steps of its outlines, with the work that they left
-pub record IsOutlinedLine (face : Face) (a : Job) (s : Fitter) (l : Placement) (fs : List FittedGlyph) (left : Option ℕ) : Type 0 where
-  pub passes : tested a ≡ Ok tt
-  pub bounded : is_bounded a.fit ≡ true
-  pub there : setting_in face a ≡ Ok s
-  pub points : work_tested a.fit point_work_limit (points_in s (text_glyphs face.cmap a.text)) ≡ Ok tt
-  pub outlines : (os : List Outline) × (outlines_in s (text_glyphs face.cmap a.text) ≡ Ok os)
-  pub fitted : AreFitted (line_fitter s (text_glyphs face.cmap a.text)) fs
-  pub numbers : fitted_numbers fs ≡ distinct (text_glyphs face.cmap a.text)
-  pub glyphs : map (λ g. g.0) l.glyphs ≡ text_glyphs face.cmap a.text
-  pub laid : laid_at face.metrics a.ppem a.margin (text_glyphs face.cmap a.text) (steps_in face.metrics a.ppem s (text_glyphs face.cmap a.text)) ≡ Ok l
-  pub work : left ≡ work_left s (text_glyphs face.cmap a.text)
-
-pub line_laid : {left : Option ℕ} (face : Face) (a : Job) (s : Fitter) (l : Placement) (fs : List FittedGlyph)
-    → IsOutlinedLine face a s l fs left → laid_out face a ≡ Ok l
-line_laid face a s l fs is =
-    laid_out_by_steps face a s is.outlines.0 l is.passes is.bounded is.there
-    (outlines_pass s a (text_glyphs face.cmap a.text) is.outlines.0 is.points is.outlines.1) is.laid
-
-pub line_points : {left : Option ℕ} (face : Face) (a : Job) (s : Fitter) (l : Placement) (fs : List FittedGlyph)
-    → IsOutlinedLine face a s l fs left → as_job (points_tested s a l) ≡ Ok tt
-line_points face a s l fs is = rw (is.glyphs, is.points) refl
-
-pub line_made : {left : Option ℕ} (face : Face) (a : Job) (s : Fitter) (l : Placement) (fs : List FittedGlyph)
-    → IsOutlinedLine face a s l fs left
-    → (shapes : List Shape) × (each (glyph_shape (line_fitter s (text_glyphs face.cmap a.text))) l.glyphs ≡ Ok shapes)
-line_made face a s l fs is =
-    shapes_of_line (line_fitter s (text_glyphs face.cmap a.text)) fs l.glyphs is.fitted
-    (all_among l.glyphs (fitted_numbers fs) (is.numbers ∙ ap distinct (sym is.glyphs)))
-
-pub line_edges : {left : Option ℕ} (face : Face) (a : Job) (s : Fitter) (l : Placement) (fs : List FittedGlyph) (shapes : List Shape)
-    → IsOutlinedLine face a s l fs left
-    → edges_limited a.fit left (fitted_chords fs) (crossings_in shapes) ≡ edges_tested s a l shapes
-line_edges face a s l fs shapes is =
-    rw (is.glyphs, is.work, chords_made s (text_glyphs face.cmap a.text) fs is.fitted is.numbers) refl
-
--- a stop at the edges of the line
-pub line_stops_text : {left : Option ℕ} (face : Face) (a : Job) (s : Fitter) (l : Placement) (fs : List FittedGlyph)
-    (shapes : List Shape) (e : DrawFault) → IsOutlinedLine face a s l fs left → shapes_in s l ≡ Ok shapes
-    → IfSome (refusal e) (λ r. as_job (edges_tested s a l shapes) ≡ Err r) → IfSome (refusal e) (λ r. text_shapes face a ≡ Err r)
-line_stops_text face a s l fs shapes (draw.Font f) is made fails = absurd (not_of_job (edges_tested s a l shapes) f fails)
-line_stops_text face a s l fs shapes (draw.Job j) is made fails =
-    edges_stop_text face a l s shapes j (line_laid face a s l fs is) is.there (line_points face a s l fs is) made
-    (job_of_test (edges_tested s a l shapes) j fails)
-line_stops_text face a s l fs shapes draw.Memory is made fails = tt
-
+-- a test of the job finds no defect
 pub line_tells_no_defect : (P : Fault → Type 0) (r : Result (Unit {0}) JobFault) (e : DrawFault)
     → IfSome (refusal e) (λ x. as_job r ≡ Err x) → IfSome (draw_font_fault e) P
 line_tells_no_defect P r (draw.Font f) fails = absurd (not_of_job r f fails)
 line_tells_no_defect P r (draw.Job j) fails = tt
 line_tells_no_defect P r draw.Memory fails = tt
-
-pub line_tells_refusal : {left : Option ℕ} (face : Face) (a : Job) (s : Fitter) (l : Placement) (fs : List FittedGlyph)
-    (shapes : List Shape) (e : DrawFault) → IsOutlinedLine face a s l fs left → shapes_in s l ≡ Ok shapes
-    → IfSome (refusal e) (λ r. as_job (edges_tested s a l shapes) ≡ Err r) → IfSome (draw_job_fault e) (IsLineRefusal face a)
-line_tells_refusal face a s l fs shapes (draw.Font f) is made fails = tt
-line_tells_refusal face a s l fs shapes (draw.Job j) is made fails =
-    let told = edges_tell face a l s shapes j is.there (placed_of face a l (line_laid face a s l fs is)) made
-    (job_of_test (edges_tested s a l shapes) j fails) in
-    rw told.0 told.1
-line_tells_refusal face a s l fs shapes draw.Memory is made fails = tt
 
 -- a stop at the points, or at an outline
 pub points_stop_outlines : (s : Fitter) (how : Fit) (gs : List ℕ) (e : DrawFault)

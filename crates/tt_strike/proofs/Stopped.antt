@@ -147,7 +147,7 @@ drawing_refuses_no_job P (font.Font f) = tt
 drawing_refuses_no_job P font.Memory = tt
 
 -- a stop in a line's glyphs stops its picture and its measure
-stops_after : {A B C E : Type 0} (x : Result A E) (f : A → Result B E) (g : A → B → Result C E) (e : E)
+pub stops_after : {A B C E : Type 0} (x : Result A E) (f : A → Result B E) (g : A → B → Result C E) (e : E)
     → (x >>= f) ≡ Err e → (x >>= λ s. f s >>= λ b. g s b) ≡ Err e
 stops_after (Ok s) f g e stopped = rw stopped refl
 stops_after (Err d) f g e stopped = let same : d ≡ e = cc in rw same refl

@@ -8,12 +8,10 @@ use Rattle.tt_core.specs.declared.draw_fault.DrawFault.{DrawFault}
 use Rattle.tt_core.specs.declared.draw_fault.DrawFault.TheVariants as draw
 use Rattle.tt_core.specs.declared.fault.JobFault.{JobFault}
 use Rattle.tt_core.specs.declared.fault.JobFault.TheVariants as job_of
-use Rattle.tt_core.specs.declared.font_fault.FontFault.{FontFault}
-use Rattle.tt_core.specs.declared.font_fault.FontFault.TheVariants as font
 use Rattle.tt_core.specs.Faults.{Fault}
 use Rattle.tt_core.specs.Limits.{height_limit, width_limit}
 use Rattle.tt_core.specs.Directory.{HasNo}
-use Rattle.tt_core.specs.Outcomes.{FontGives, draw_fault_of_font, each}
+use Rattle.tt_core.specs.Outcomes.{each}
 use Rattle.tt_face.specs.Faces.{Face}
 use Rattle.tt_fit.specs.Fitting.{Fitter}
 use Rattle.tt_fit.specs.outline.Outline.{Outline}
@@ -26,30 +24,28 @@ use Rattle.tt_metrics.specs.Metrics.{Metrics}
 use Rattle.tt_picture.specs.Pixels.{Shape}
 use Rattle.tt_picture.specs.Shapes.{glyph_shape}
 use Rattle.tt_strike.specs.Defects.{IsLineDefect, IsSettingDefect}
+use Rattle.tt_strike.specs.Fitted.{outlines_made}
 use Rattle.tt_strike.specs.Job.{Job, tested}
 use Rattle.tt_strike.specs.Layouts.{TellsMadeDefects, layout_by, layout_outcome, pens_at, pens_outcome, size_outcome, steps_outcome}
 use Rattle.tt_strike.specs.Picture.{made_line, outlines_tested, setting_in}
-use Rattle.tt_strike.specs.Refusals.{as_job, job, refusal}
+use Rattle.tt_strike.specs.Refusals.{Refused, as_font, as_job, job, refusal}
 use Rattle.tt_strike.specs.Strikes.{SizedFace, job_by}
 use Rattle.tt_strike.specs.Work.{is_bounded, line_fitter}
-use Rattle.tt_strike.proofs.Stopped.{stops}
+use Rattle.tt_strike.proofs.Stopped.{stops, stops_after}
 use Rattle.tt_strike.proofs.Telling.{no_line_defect}
 
--- a stop in opening the fitter, or at the outlines, stops the steps
-pub setting_stops_steps : (face : Face) (a : Job) (e : FontFault) → is_bounded a.fit ≡ true
-    → FontGives {X = Fitter} (λ f. f) (Err e) (setting_in face a)
-    → IfSome (refusal (draw_fault_of_font e)) (λ r. steps_outcome face a ≡ Err r)
+-- a stop at the outlines stops the steps
+no_steps : (face : Face) (a : Job) (r : Refused) → is_bounded a.fit ≡ true
+    → outlines_made face a.ppem a.fit (text_glyphs face.cmap a.text) ≡ Err r → steps_outcome face a ≡ Err r
 unfolding steps_outcome
-setting_stops_steps face a (font.Font f) bounded fails = rw (bounded, fails) refl
-setting_stops_steps face a font.Memory bounded fails = tt
+no_steps face a r bounded fails =
+    rw bounded (stops_after (as_font (setting_in face a)) (λ s. outlines_tested s a.fit (text_glyphs face.cmap a.text)) _ r fails)
 
-pub outlines_stop_steps : (face : Face) (a : Job) (s : Fitter) (e : DrawFault) → is_bounded a.fit ≡ true
-    → setting_in face a ≡ Ok s → IfSome (refusal e) (λ r. outlines_tested s a.fit (text_glyphs face.cmap a.text) ≡ Err r)
+pub units_stop_steps : (face : Face) (a : Job) (e : DrawFault) → is_bounded a.fit ≡ true
+    → IfSome (refusal e) (λ r. outlines_made face a.ppem a.fit (text_glyphs face.cmap a.text) ≡ Err r)
     → IfSome (refusal e) (λ r. steps_outcome face a ≡ Err r)
-unfolding steps_outcome
-outlines_stop_steps face a s (draw.Font f) bounded there fails = rw (bounded, there, fails) refl
-outlines_stop_steps face a s (draw.Job j) bounded there fails = rw (bounded, there, fails) refl
-outlines_stop_steps face a s draw.Memory bounded there fails = tt
+units_stop_steps face a e bounded =
+    stops e (outlines_made face a.ppem a.fit (text_glyphs face.cmap a.text)) (steps_outcome face a) (λ r fails. no_steps face a r bounded fails)
 
 -- the steps of glyphs that are made, and those by advances
 pub steps_by_outlines : (face : Face) (a : Job) (s : Fitter) (os : List Outline) (line : List (ℕ × ℕ)) → is_bounded a.fit ≡ true

@@ -3,6 +3,7 @@ pub mod Refusals
 pub mod Costs
 pub mod Defects
 pub mod Enlarged
+pub mod Fitted
 pub mod Programs
 pub mod Grown
 pub mod Layouts

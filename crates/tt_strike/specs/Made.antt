@@ -2,15 +2,13 @@
 use Rattle.std.specs.Prelude.{◌≡◌, ℕ, ◌<◌, All, List, map, Result, Ok}
 use Rattle.tt_core.specs.Outcomes.{◌>>=◌}
 use Rattle.tt_fit.specs.Fitting.{Fitter}
-use Rattle.tt_fit.specs.outline.Outline.{Outline}
 use Rattle.tt_line.specs.Layout.{Placement, text_glyphs}
-use Rattle.tt_metrics.specs.Metrics.{Metrics, glyphs_of}
+use Rattle.tt_metrics.specs.Metrics.{glyphs_of}
 use Rattle.tt_picture.specs.Distinct.{distinct}
-use Rattle.tt_picture.specs.Fitted.{AreFitted, FittedGlyph, fitted_numbers}
-use Rattle.tt_picture.specs.Glyphs.{AreDrawn, ArePlaces, Glyph, numbers_of}
+use Rattle.tt_picture.specs.Glyphs.{AreDrawn, Glyph, numbers_of}
 use Rattle.tt_strike.specs.Costs.{line_cost}
 use Rattle.tt_strike.specs.Job.{Job}
-use Rattle.tt_strike.specs.Picture.{edges_tested, laid_out, line_shapes, outlines_in, points_tested, made_line, setting_in, shapes_in, steps_in}
+use Rattle.tt_strike.specs.Picture.{edges_tested, laid_out, line_shapes, points_tested, setting_in, shapes_in}
 use Rattle.tt_picture.specs.Pixels.{Shape}
 use Rattle.tt_strike.specs.Refusals.{Refused, as_font, as_job}
 use Rattle.tt_face.specs.Faces.{Face}
@@ -42,15 +40,3 @@ pub record IsMadeLine (face : Face) (a : Job) (line : Placement) (gs : List Glyp
   pub known : All (λ g. g.0 < glyphs_of face.metrics) line.glyphs
   pub made : AreMade face a line gs
   pub cost : line_cost face a line ≡ Ok n
-
--- a text's distinct glyphs are fitted: these, with this table of their places. Each unit has its glyph and the
--- glyph's step
-pub record AreOutlined (m : Metrics) (ppem : ℕ) (s : Fitter) (gs : List ℕ) (line : List (ℕ × ℕ)) (table : List ℕ)
-    (fs : List FittedGlyph) : Type 0 where
-  pub glyphs : map (λ g. g.0) line ≡ gs
-  pub steps : map (λ g. g.1) line ≡ steps_in m ppem s gs
-  pub whole : line ≡ made_line m ppem s gs
-  pub places : ArePlaces table (fitted_numbers fs)
-  pub numbers : fitted_numbers fs ≡ distinct gs
-  pub fitted : AreFitted (line_fitter s gs) fs
-  pub made : (os : List Outline) × (outlines_in s gs ≡ Ok os)

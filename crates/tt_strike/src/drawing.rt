@@ -1,6 +1,6 @@
 //! Makes the glyphs of a line that is laid out, and draws them.
 
-ghost use Rattle.std.specs.Prelude.{◌≡◌, ◌<◌, false, map, All, Ok, Err, IfOk, IsOkAnd};
+ghost use Rattle.std.specs.Prelude.{◌≡◌, ◌<◌, true, false, map, All, Ok, Err, IfOk, IsOkAnd};
 ghost use Rattle.tt_core.specs.Outcomes.{GivesUnless, IfTold, draw_font_fault, draw_job_fault};
 ghost use Rattle.tt_line.specs.Layout.{text_glyphs};
 ghost use Rattle.tt_line.specs.Outcome.{placement_of};
@@ -9,6 +9,7 @@ ghost use Rattle.tt_picture.specs.Cached.{limit_of};
 ghost use Rattle.tt_picture.specs.Pictures.{image_of};
 ghost use Rattle.tt_strike.specs.Costs.{line_cost};
 ghost use Rattle.tt_strike.specs.Defects.{IsLineDefect, IsLineRefusal, TellsDefects};
+ghost use Rattle.tt_strike.specs.Fitted.{HasFittedUnits};
 ghost use Rattle.tt_strike.specs.Made.{AreMade, shapes_made};
 ghost use Rattle.tt_strike.specs.Picture.{frame_of, laid_out, line_outcome};
 ghost use Rattle.tt_strike.specs.Refusals.{refusal};
@@ -17,8 +18,9 @@ ghost use Rattle.tt_strike.specs.Strikes.{IsCacheOf, job_by, job_with};
 ghost use Rattle.tt_strike.specs.Work.{is_bounded};
 
 use crate::distinct_glyphs::{DistinctGlyphs, distinct};
+use crate::fitting::FittedUnits;
 use crate::laid::Laid;
-use crate::making::MadeLine;
+use crate::making::{MadeLine, tested_edges};
 use crate::sized::SizedFace;
 use tt_core::DrawFault;
 use tt_picture::{Cache, Glyphs, Picture, made_glyphs};
@@ -53,6 +55,33 @@ impl<'f, 'a> SizedFace<'f, 'a> {
             made,
             cost: 0,
         })
+    }
+
+    /// The glyphs of a laid-out line whose units are fitted, drawn; only where work is bounded. Those that may be and are
+    /// small enough are cached. Errors: WorkLarge of their chords, and then of their crossings by the work that is left;
+    /// Memory.
+    pub fn drawn_units(
+        &self,
+        units: FittedUnits,
+        laid: &Laid,
+        cache: &mut Cache,
+    ) -> Result<Glyphs, DrawFault>
+        requires bounded { is_bounded self.now.fit ≡ true }
+        requires fitted { HasFittedUnits self.now.face self.now.ppem self.now.fit (map (λ g. g.0) laid.now.line.glyphs.items) units }
+        requires cache { IsCacheOf self.now cache.old }
+        ensures made { IfOk result (λ g. AreMade self.now.face (job_with self.now laid.now.margin) (placement_of laid.now.line) g.made.items) }
+        ensures cost { IfOk result (λ g. line_cost self.now.face (job_with self.now laid.now.margin) (placement_of laid.now.line) ≡ Ok g.cost) }
+        ensures stops { IfTold refusal result (λ r. shapes_made self.now.face (job_with self.now laid.now.margin) (placement_of laid.now.line) ≡ Err r) }
+        ensures font { IfTold draw_font_fault result (λ _. ⊥) }
+        ensures cache { IsCacheOf self.now cache.new }
+        ensures limit { limit_of cache.new ≡ limit_of cache.old }
+    {
+        let FittedUnits {
+            places,
+            fitted,
+            left,
+        } = units;
+        tested_edges(self.alloc(), self.fit(), places, fitted, laid, left, cache)
     }
 
     /// The picture of a text. Errors: as `make_line`.

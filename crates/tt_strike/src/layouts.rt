@@ -13,7 +13,7 @@ ghost use Rattle.tt_strike.specs.Work.{is_bounded};
 
 use crate::job::{test_margin, test_text};
 use crate::sized::SizedFace;
-use crate::stepping::OutlinedText;
+use crate::stepping::FittedText;
 use crate::work::is_bounded;
 use std::alloc::{AllocError, Global};
 use tt_cmap::{CharacterMap, TextUnit};
@@ -102,18 +102,8 @@ impl<'f, 'a> SizedFace<'f, 'a> {
         ensures defects { TellsDefects draw_font_fault (IsLineDefect self.old.face (job_by self.old text.now 0) (text_glyphs self.old.face.cmap text.now)) result }
         ensures same { self.new ≡ self.old }
     {
-        let source = self.source;
-        let mut fitter = self.maker.take(&source)?;
-        let begun = fitter.work();
-        let outlined = source.outlined(
-            &mut fitter,
-            &mut self.known,
-            &mut self.table,
-            text,
-            &Cache::absent(),
-        )?;
-        self.maker.give_back(fitter, begun);
-        let OutlinedText { steps, .. } = outlined;
+        let fitted = self.fitted_text(text, &Cache::absent())?;
+        let FittedText { steps, .. } = fitted;
         Ok(steps)
     }
 

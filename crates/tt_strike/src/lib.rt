@@ -4,6 +4,7 @@
 mod distinct_glyphs;
 mod drawing;
 mod enlarging;
+mod fitting;
 mod growing;
 mod having;
 mod inked;
@@ -25,6 +26,7 @@ mod strike;
 mod work;
 
 pub use distinct_glyphs::{DistinctGlyphs, distinct};
+pub use fitting::FittedUnits;
 pub use growing::{Sides, grown};
 pub use inked::InkedGlyphs;
 pub use job::{Job, test_job, test_margin, test_text};
@@ -32,7 +34,6 @@ pub use laid::Laid;
 pub use layouts::{Layout, Pen, TextPens};
 pub use line_box::line_ink;
 pub use maker::Maker;
-pub use making::tested_edges;
 pub use measuring::{CharacterMeasure, Measure};
 pub use place_table::PlaceTable;
 pub use sized::SizedFace;

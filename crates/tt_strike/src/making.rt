@@ -22,7 +22,7 @@ ghost use Rattle.tt_strike.specs.Work.{edges_limited, is_bounded};
 use crate::job::{test_margin, test_text};
 use crate::laid::Laid;
 use crate::sized::SizedFace;
-use crate::stepping::OutlinedText;
+use crate::stepping::FittedText;
 use crate::work::{CHORD_LIMIT, cost_of, crossings_allowed, is_bounded, test_crossings};
 use std::alloc::Global;
 use tt_core::{DrawFault, JobFault};
@@ -40,7 +40,7 @@ pub(crate) struct MadeLine {
 /// The glyphs of a line, fitted before, with the table of their places, where work is bounded. Those that may be and are
 /// small enough are cached. Errors: WorkLarge of their chords, and then of their crossings by the work that is left;
 /// Memory.
-pub fn tested_edges(
+pub(crate) fn tested_edges(
     alloc: Global,
     fit: Fit,
     places: Vec<u16>,
@@ -107,22 +107,15 @@ impl<'f, 'a> SizedFace<'f, 'a> {
         ensures cache { IsCacheOf self.old cache.new }
         ensures limit { limit_of cache.new ≡ limit_of cache.old }
     {
-        let source = self.source;
+        let face = self.face();
+        let ppem = self.ppem();
         test_margin(margin)?;
         test_text(text)?;
-        let mut fitter = self.maker.take(&source)?;
-        let begun = fitter.work();
-        let outlined = source.outlined(&mut fitter, &mut self.known, &mut self.table, text, cache)?;
-        let left = fitter.work();
-        self.maker.give_back(fitter, begun);
-        let OutlinedText {
-            steps,
-            places,
-            fitted,
-        } = outlined;
-        let line = lay_steps(source.face.metrics(), steps, source.ppem, margin)?;
+        let fitted = self.fitted_text(text, cache)?;
+        let FittedText { steps, units } = fitted;
+        let line = lay_steps(face.metrics(), steps, ppem, margin)?;
         let laid = Laid { line, margin };
-        let glyphs = tested_edges(source.alloc, source.fit, places, fitted, &laid, left, cache)?;
+        let glyphs = self.drawn_units(units, &laid, cache)?;
         Ok(MadeLine { laid, glyphs })
     }
 

@@ -84,6 +84,7 @@ impl<'f, 'a> SizedFace<'f, 'a> {
     /// The size in pixels per em.
     pub fn ppem(&self) -> u32
         ensures exact { result ≡ self.now.ppem }
+        ensures some { 1 ≤ result }
         ensures limit { result ≤ size_limit }
     {
         self.source.ppem

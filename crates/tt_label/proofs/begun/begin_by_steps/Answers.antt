@@ -5,7 +5,7 @@ use Rattle.std.specs.Prelude.{All}
 use Rattle.tt_core.specs.Limits.{text_limit}
 use Rattle.tt_fit.specs.Fitting.{Fitter}
 use Rattle.tt_label.specs.Gathered.{units_glyphs}
-use Rattle.tt_label.proofs.UnitsMade.{bounded_step, count_as_many, lines_as_short, outlines_make_units, outlines_stop_units, rows_as_few, setting_stops_units}
+use Rattle.tt_label.proofs.UnitsMade.{bounded_step, count_as_many, lines_as_short, outlines_make_units, outlines_stop_units, rows_as_few}
 use Rattle.tt_label.proofs.UnitGlyphs.{as_many_glyphs, at_zero, glyphs_have, its_units, units_have, zero_had, zero_have, zero_numbers, zero_pens}
 use Rattle.tt_label_rows.specs.Units.{all_glyphs, text_units}
 use Rattle.tt_metrics.specs.Metrics.{glyphs_of}
@@ -15,14 +15,12 @@ use Rattle.tt_picture.proofs.Among.{all_among}
 use Rattle.tt_picture.proofs.Outlines.{advances_are}
 use Rattle.tt_picture.specs.Steps.{step_by}
 use Rattle.tt_rows.specs.declared.unit.RowUnit.{RowUnit}
-use Rattle.tt_strike.specs.Makers.{IsMaker}
+use Rattle.tt_strike.specs.Fitted.{AreFittedUnits}
 use Rattle.tt_strike.specs.Picture.{advance_with}
 use Rattle.tt_strike.specs.Strikes.{SizedFace, job_by}
 use Rattle.tt_strike.specs.Work.{line_fitter}
-use Rattle.tt_strike.proofs.Caches.{of_fitter}
-use Rattle.tt_strike.proofs.Setting.{given_back, line_alike}
 use Rattle.tt_strike.proofs.Stepped.{outlines_pass}
-use Rattle.tt_label.proofs.begun.begin_by_steps.Goals.{After-give_back, In_ok-fitted, In_ok-glyphs, In_ok-units}
+use Rattle.tt_label.proofs.begun.begin_by_steps.Goals.{In_ok-fitted, In_ok-glyphs, In_ok-units}
 use Rattle.tt_label.proofs.begun.begin_by_steps.Goals as goal
 
 -- the glyphs of the text
@@ -46,26 +44,33 @@ known_then c =
     let known = rw c.cmap.ensures.glyphs at c.in_ok-units.ensures.known in
     rw (flat_of c) (zero_have P (all_glyphs (its_units c.in_ok-units.units.items)) (glyphs_have P c.in_ok-units.units.items known))
 
-pub fit_all-requires-clause-known : goal.fit_all-requires-clause-known
-fit_all-requires-clause-known c = rw c.deref-2.ensures.value (known_then (goal.at.fit_all-requires-clause-known c).In_ok-glyphs)
+pub fit_units-requires-clause-known : goal.fit_units-requires-clause-known
+fit_units-requires-clause-known c =
+    rw (← c.sized.view_is, c.deref-2.ensures.value) (known_then (goal.at.fit_units-requires-clause-known c).In_ok-glyphs)
 
-pub fit_all-requires-clause-few : goal.fit_all-requires-clause-few
-fit_all-requires-clause-few c = rw c.deref-2.ensures.value (few_then (goal.at.fit_all-requires-clause-few c).In_ok-glyphs)
+pub fit_units-requires-clause-few : goal.fit_units-requires-clause-few
+fit_units-requires-clause-few c = rw c.deref-2.ensures.value (few_then (goal.at.fit_units-requires-clause-few c).In_ok-glyphs)
 
-pub fit_all-requires-clause-cache : goal.fit_all-requires-clause-cache
-fit_all-requires-clause-cache c =
-    let z : SizedFace = record { face = c.sized.inside.source.face.now; ppem = c.sized.inside.source.ppem; fit = c.sized.inside.source.fit } in
-    of_fitter z c.in_ok-fitter.fitter c.args.cache.now c.in_ok-fitter.ensures.setting (rw (← c.sized.view_is) at c.requires.cache)
+-- the glyphs that are fitted are those of the text
+text_numbers : (c : In_ok-glyphs) → map (λ (g : ℕ × ℕ). g.0) c.in_ok-glyphs.glyphs.items
+    ≡ all_glyphs (text_units c.sized.inside.source.face.now.cmap c.args.text.now)
+text_numbers c = numbers_of c ∙ ap all_glyphs (rw c.cmap.ensures.exact at c.in_ok-units.ensures.exact)
 
-pub fit_all-requires-clause-bounded : goal.fit_all-requires-clause-bounded
-fit_all-requires-clause-bounded c = rw (← c.sized.view_is) at c.requires.bounded
+fitted_then : (c : In_ok-fitted) → map (λ (g : ℕ × ℕ). g.0) c.in_ok-glyphs.glyphs.items
+    ≡ all_glyphs (text_units c.sized.inside.source.face.now.cmap c.args.text.now)
+    → (s : Fitter) × AreFittedUnits c.sized.inside.source.face.now c.sized.inside.source.ppem c.sized.inside.source.fit
+    (all_glyphs (text_units c.sized.inside.source.face.now.cmap c.args.text.now)) c.in_ok-fitted.fitted s
+fitted_then c are = rw (← c.sized.view_is, c.deref-2.ensures.value, are) at c.in_ok-fitted.ensures.fitted
 
-pub fit_all-requires-clause-glyphs : goal.fit_all-requires-clause-glyphs
-fit_all-requires-clause-glyphs c = c.in_ok-fitter.ensures.setting.glyphs
+pub fitted_lines-requires-clause-places : goal.fitted_lines-requires-clause-places
+fitted_lines-requires-clause-places c =
+    let all = goal.at.fitted_lines-requires-clause-places c in
+    (fitted_then all.In_ok-fitted (text_numbers all.In_ok-glyphs)).1.places
 
 pub fitted_lines-requires-clause-known : goal.fitted_lines-requires-clause-known
 fitted_lines-requires-clause-known c =
-    let known = rw (c.cmap.ensures.glyphs, ← c.in_ok-fitted.ensures.room) at c.in_ok-units.ensures.known in
+    let room = rw (← c.sized.view_is) at c.in_ok-fitted.ensures.room in
+    let known = rw (c.cmap.ensures.glyphs, ← room) at c.in_ok-units.ensures.known in
     rw c.deref-3.ensures.value known
 
 pub fitted_lines-requires-clause-among : goal.fitted_lines-requires-clause-among
@@ -74,21 +79,10 @@ fitted_lines-requires-clause-among c =
     let fs = c.in_ok-fitted.fitted.fitted.items in
     let P : ℕ → Type 0 = λ n. is_among n (fitted_numbers fs) ≡ true in
     let gs = all_glyphs (its_units c.in_ok-units.units.items) in
-    let numbers = rw c.deref-2.ensures.value at c.in_ok-fitted.ensures.numbers in
+    let are = text_numbers all.In_ok-glyphs in
+    let numbers = (fitted_then all.In_ok-fitted are).1.numbers ∙ ap distinct (sym are) in
     let flat = all_among c.in_ok-glyphs.glyphs.items (fitted_numbers fs) numbers in
     rw c.deref-3.ensures.value (units_have P c.in_ok-units.units.items (zero_had P gs (rw (flat_of all.In_ok-glyphs) at flat)))
-
-pub returns-in_err-fitter-clause-stops : goal.returns-in_err-fitter-clause-stops
-returns-in_err-fitter-clause-stops c =
-    let z : SizedFace = record { face = c.sized.inside.source.face.now; ppem = c.sized.inside.source.ppem; fit = c.sized.inside.source.fit } in
-    let a = job_by z c.args.text.now c.args.margin in
-    let p = err_from_is_err_and c.from_residual-in_err-fitter.result c.from_residual-in_err-fitter.ensures.1 in
-    rw (p.1, p.2, ← c.sized.view_is) (setting_stops_units z.face a c.in_err-fitter.field-0.0 c.in_err-fitter.ensures.exact)
-
--- the glyphs that are fitted are those of the text
-text_numbers : (c : In_ok-glyphs) → map (λ (g : ℕ × ℕ). g.0) c.in_ok-glyphs.glyphs.items
-    ≡ all_glyphs (text_units c.sized.inside.source.face.now.cmap c.args.text.now)
-text_numbers c = numbers_of c ∙ ap all_glyphs (rw c.cmap.ensures.exact at c.in_ok-units.ensures.exact)
 
 pub returns-in_err-fitted-clause-stops : goal.returns-in_err-fitted-clause-stops
 returns-in_err-fitted-clause-stops c =
@@ -96,24 +90,9 @@ returns-in_err-fitted-clause-stops c =
     let a = job_by z c.args.text.now c.args.margin in
     let all = goal.at.returns-in_err-fitted-clause-stops c in
     let bounded = rw (← c.sized.view_is) at c.requires.bounded in
-    let fails = rw (c.deref-2.ensures.value, text_numbers all.In_ok-glyphs) at c.in_err-fitted.ensures.stops in
+    let fails = rw (← c.sized.view_is, c.deref-2.ensures.value, text_numbers all.In_ok-glyphs) at c.in_err-fitted.ensures.stops in
     let p = err_from_is_err_and c.from_residual-in_err-fitted.result c.from_residual-in_err-fitted.ensures.1 in
-    rw (p.1, p.2, ← c.sized.view_is) (outlines_stop_units z.face a c.in_ok-fitter.fitter c.in_err-fitted.field-0.0 bounded c.in_ok-fitter.ensures.exact fails)
-
--- the fitter that is given back is the one before the text
-maker_then : (c : After-give_back) → IsMaker c.sized.inside.source.face.now c.sized.inside.source.ppem c.sized.inside.source.fit c.give_back.new.self
-maker_then c =
-    let s = c.in_ok-fitter.fitter in
-    let gs = map (λ (g : ℕ × ℕ). g.0) c.deref-2.result.now in
-    given_back c.sized.inside.source.face.now c.sized.inside.source.ppem c.sized.inside.source.fit s c.fit_all.new.fitter
-    c.work-begun.result c.give_back.new.self c.in_ok-fitter.ensures.setting
-    (rw c.in_ok-fitted.ensures.after (line_alike s gs (distinct gs))) c.work-begun.ensures c.give_back.ensures
-
-pub invariant_of-sized-in_err-lines : goal.invariant_of-sized-in_err-lines
-invariant_of-sized-in_err-lines c = (maker_then (goal.at.invariant_of-sized-in_err-lines c).After-give_back, c.sized.invariant.1)
-
-pub invariant_of-sized-2 : goal.invariant_of-sized-2
-invariant_of-sized-2 c = (maker_then (goal.at.invariant_of-sized-2 c).After-give_back, c.sized.invariant.1)
+    rw (p.1, p.2, ← c.sized.view_is) (outlines_stop_units z.face a c.in_err-fitted.field-0.0 bounded fails)
 
 pub gathered_line-requires-clause-few : goal.gathered_line-requires-clause-few
 gathered_line-requires-clause-few c = few_then (goal.at.gathered_line-requires-clause-few c).In_ok-glyphs
@@ -127,36 +106,24 @@ returns-clause-begun c =
     let z : SizedFace = record { face = c.sized.inside.source.face.now; ppem = c.sized.inside.source.ppem; fit = c.sized.inside.source.fit } in
     let a = job_by z c.args.text.now c.args.margin in
     let all = goal.at.returns-clause-begun c in
-    let s = c.in_ok-fitter.fitter in
-    let fs = c.in_ok-fitted.fitted.fitted.items in
     let gs = units_glyphs z.face a in
+    let f = fitted_then all.In_ok-fitted (text_numbers all.In_ok-glyphs) in
+    let s = f.0 in
     let units : its_units c.in_ok-units.units.items ≡ text_units z.face.cmap a.text = rw c.cmap.ensures.exact at c.in_ok-units.ensures.exact in
     let flat : c.in_ok-glyphs.glyphs.items ≡ at_zero gs = flat_of all.In_ok-glyphs ∙ ap (λ (us : List (List RowUnit)). at_zero (all_glyphs us)) units in
-    let here : map (λ (g : ℕ × ℕ). g.0) c.deref-2.result.now ≡ gs = ap (map (λ (g : ℕ × ℕ). g.0)) (c.deref-2.ensures.value ∙ flat) ∙ zero_numbers gs in
     let bounded = rw (← c.sized.view_is) at c.requires.bounded in
-    let points = rw here at c.in_ok-fitted.ensures.outlines.0 in
-    let outlines = rw here at c.in_ok-fitted.ensures.outlines.1 in
-    let fitted = rw here at c.in_ok-fitted.ensures.fitted in
-    let steps = c.in_ok-lines.ensures (advance_with s gs) (advances_are (line_fitter s gs) fs fitted) in
+    let steps = c.in_ok-lines.ensures (advance_with s gs) (advances_are (line_fitter s gs) c.in_ok-fitted.fitted.fitted.items f.1.fitted) in
     let step = step_by z.face.metrics z.ppem (advance_with s gs) in
     let made = rw c.deref-3.ensures.value at steps in
     rw (← c.sized.view_is) (
       s,
       record {
         tested = rw (← c.sized.view_is) at c.requires.tested;
-        made = outlines_make_units z.face a s outlines.0 bounded c.in_ok-fitter.ensures.exact (outlines_pass s a gs outlines.0 points outlines.1);
+        made = outlines_make_units z.face a s f.1.outlines.0 bounded f.1.setting.exact (outlines_pass s a gs f.1.outlines.0 f.1.points f.1.outlines.1);
         finish = record {
-          opened = c.in_ok-fitter.ensures.exact;
+          opened = f.1.setting.exact;
           line = c.gathered_line.ensures.line ∙ rw flat refl;
-          stage = record {
-            bounded = bounded;
-            points = points;
-            outlines = outlines;
-            places = c.in_ok-fitted.ensures.places;
-            numbers = rw here at c.in_ok-fitted.ensures.numbers;
-            fitted = fitted;
-            work = c.work-left.ensures ∙ ap (λ (t : Fitter). t.work) (rw here at c.in_ok-fitted.ensures.after);
-          };
+          stage = (bounded, f.1);
         };
         lines = (rw units at made) ∙ sym (bounded_step z.face a s bounded);
         margin = c.gathered_line.ensures.margin;

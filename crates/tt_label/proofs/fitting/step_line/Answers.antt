@@ -7,9 +7,9 @@ use Rattle.tt_label.proofs.fitting.step_line.Goals as goal
 
 pub returns : goal.returns
 returns c = λ advance are.
-    let m = c.args.source.now.face.now.metrics in
-    let step = step_by m c.args.source.now.ppem advance in
-    let put = rw c.metrics.ensures at (c.put_steps.ensures advance are) in
+    let m = c.args.metrics.now in
+    let step = step_by m c.args.ppem advance in
+    let put = c.put_steps.ensures advance are in
     let count : length c.put_steps.new.line ≡ c.args.line.len = ap length put
     ∙ length-stepped m step (map (λ (g : ℕ × ℕ). g.0) c.deref_mut.result.now)
     ∙ length-map c.deref_mut.result.now (λ (g : ℕ × ℕ). g.0) ∙ c.deref_mut.ensures.len in

@@ -31,8 +31,8 @@ loop-line-preserved c =
       among = All-tail (λ (v : Steps). All (λ (g : ℕ × ℕ). is_among g.0 (fitted_numbers c.args.fitted.now) ≡ true) v.items) line left
           (rw steps at at.invariant.among);
       steps = λ advance are.
-          let m = c.args.source.now.face.now.metrics in
-          let step = step_by m c.args.source.now.ppem advance in
+          let m = c.args.metrics.now in
+          let step = step_by m c.args.ppem advance in
           let whole = rw steps at (at.invariant.steps advance are) in
           let own : made.items ≡ stepped m step (map (λ (g : ℕ × ℕ). g.0) line.items) = c.step_line.ensures advance are in
           rw (pushed, map_push items at.made.items made, own)

@@ -14,6 +14,6 @@ invariant-loop-line l = record {
   known : All (λ v. All (λ g. g.0 < length l.places) v.items) (into_iter_items l.line-iterator);
   among : All (λ v. All (λ g. is_among g.0 (fitted_numbers l.fitted) ≡ true) v.items) (into_iter_items l.line-iterator);
   steps : (advance : ℕ → ℤ) → AreAdvances advance l.fitted
-      → map (λ v. v.items) l.made.items ++ with_steps l.source.face.now.metrics (step_by l.source.face.now.metrics l.source.ppem advance) (map (λ v. v.items) (into_iter_items l.line-iterator))
-      ≡ with_steps l.source.face.now.metrics (step_by l.source.face.now.metrics l.source.ppem advance) (map (λ v. v.items) l.fn.lines.items);
+      → map (λ v. v.items) l.made.items ++ with_steps l.metrics (step_by l.metrics l.ppem advance) (map (λ v. v.items) (into_iter_items l.line-iterator))
+      ≡ with_steps l.metrics (step_by l.metrics l.ppem advance) (map (λ v. v.items) l.fn.lines.items);
 }

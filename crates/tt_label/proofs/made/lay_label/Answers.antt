@@ -11,7 +11,7 @@ use Rattle.tt_line.specs.Steps.{step_in_pixels}
 use Rattle.tt_line.specs.Outcome.{placement_of}
 use Rattle.tt_metrics.specs.Metrics.{glyphs_of}
 use Rattle.tt_strike.specs.declared.laid.Laid.{Laid}
-use Rattle.tt_strike.specs.Strikes.{SizedFace, job_by}
+use Rattle.tt_strike.specs.Strikes.{job_by}
 use Rattle.tt_label.proofs.made.lay_label.Goals as goal
 
 pub lay_lines-requires-clause-few : goal.lay_lines-requires-clause-few
@@ -20,34 +20,27 @@ lay_lines-requires-clause-few c =
 
 pub returns-in_err-laid-clause-exact : goal.returns-in_err-laid-clause-exact
 returns-in_err-laid-clause-exact c =
-    let z : SizedFace = record { face = c.sized.inside.source.face.now; ppem = c.sized.inside.source.ppem; fit = c.sized.inside.source.fit } in
+    let z = c.args.sized.now in
     let a = job_by z c.args.text.now c.args.margin in
-    let steps = rw c.sized.invariant.1 at c.in_ok-steps.ensures.exact in
-    let gives = rw (c.metrics-metrics.ensures, steps) at c.in_err-laid.ensures in
-    let passes = rw (← c.sized.view_is) at c.requires.tested in
-    let unbounded = rw (← c.sized.view_is) at c.requires.unbounded in
+    let gives = rw (c.metrics.ensures, c.face-face.ensures, c.ppem-ppem.ensures.exact, c.in_ok-steps.ensures.exact) at c.in_err-laid.ensures in
     let p = err_from_is_err_and c.from_residual-in_err-laid.result c.from_residual-in_err-laid.ensures.1 in
-    rw (p.1, p.2, ← c.sized.view_is) (refused_as_job (λ (v : Vec Line Global). map placement_of v.items) (λ (v : Vec Laid Global). placements_of v.items)
+    rw (p.1, p.2) (refused_as_job (λ (v : Vec Line Global). map placement_of v.items) (λ (v : Vec Laid Global). placements_of v.items)
     (label_placement z.face.metrics a.ppem a.margin c.args.align (stepped_lines z.face.metrics (step_in_pixels z.face.metrics z.ppem) z.face.cmap a.text))
     (label_placed z.face a c.args.align) c.in_err-laid.field-0.0 gives
-    (λ j fails. placed_by_advances z.face a c.args.align passes unbounded ∙ rw fails refl))
+    (λ j fails. placed_by_advances z.face a c.args.align c.requires.tested c.requires.unbounded ∙ rw fails refl))
 
 pub returns-clause-exact : goal.returns-clause-exact
 returns-clause-exact c =
-    let z : SizedFace = record { face = c.sized.inside.source.face.now; ppem = c.sized.inside.source.ppem; fit = c.sized.inside.source.fit } in
+    let z = c.args.sized.now in
     let a = job_by z c.args.text.now c.args.margin in
-    let steps = rw c.sized.invariant.1 at c.in_ok-steps.ensures.exact in
-    let laid = rw (c.metrics-metrics.ensures, steps) at c.in_ok-laid.ensures in
-    let passes = rw (← c.sized.view_is) at c.requires.tested in
-    let unbounded = rw (← c.sized.view_is) at c.requires.unbounded in
-    rw (← c.sized.view_is, c.in_ok-with_margin.ensures.lines) (placed_by_advances z.face a c.args.align passes unbounded ∙ rw laid refl)
+    let laid = rw (c.metrics.ensures, c.face-face.ensures, c.ppem-ppem.ensures.exact, c.in_ok-steps.ensures.exact) at c.in_ok-laid.ensures in
+    rw c.in_ok-with_margin.ensures.lines (placed_by_advances z.face a c.args.align c.requires.tested c.requires.unbounded ∙ rw laid refl)
 
 pub returns-clause-laid : goal.returns-clause-laid
 returns-clause-laid c =
-    let z : SizedFace = record { face = c.sized.inside.source.face.now; ppem = c.sized.inside.source.ppem; fit = c.sized.inside.source.fit } in
-    let known = rw c.sized.invariant.1 at c.in_ok-steps.ensures.known in
-    let laid = rw (c.metrics-metrics.ensures, ← c.in_ok-with_margin.ensures.lines) at c.in_ok-laid.ensures in
-    rw (← c.sized.view_is) (laid_by z.face z.ppem c.args.margin c.args.align c.in_ok-steps.steps.items c.in_ok-with_margin.field-0.items c.requires.margin
+    let z = c.args.sized.now in
+    let laid = rw (c.metrics.ensures, c.face-face.ensures, c.ppem-ppem.ensures.exact, ← c.in_ok-with_margin.ensures.lines) at c.in_ok-laid.ensures in
+    laid_by z.face z.ppem c.args.margin c.args.align c.in_ok-steps.steps.items c.in_ok-with_margin.field-0.items c.requires.margin
     c.in_ok-steps.ensures.some c.in_ok-steps.ensures.few
-    (all_flat (λ (g : ℕ × ℕ). g.0 < glyphs_of z.face.metrics) (λ (v : Vec (ℕ × ℕ) Global). v.items) c.in_ok-steps.steps.items known)
-    c.in_ok-with_margin.ensures.margin laid)
+    (all_flat (λ (g : ℕ × ℕ). g.0 < glyphs_of z.face.metrics) (λ (v : Vec (ℕ × ℕ) Global). v.items) c.in_ok-steps.steps.items c.in_ok-steps.ensures.known)
+    c.in_ok-with_margin.ensures.margin laid
