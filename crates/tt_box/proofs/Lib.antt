@@ -1,0 +1,3 @@
+pub mod RowsFit
+pub mod Sizes
+pub mod Tries

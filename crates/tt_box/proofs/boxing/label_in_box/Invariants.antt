@@ -1,0 +1,7 @@
+use Rattle.tt_box.proofs.Sizes.{AreOn}
+use Rattle.tt_strike.specs.Job.{job_for}
+use Rattle.tt_box.proofs.boxing.label_in_box.Given as goal
+
+abbrev pub invariant-loop-ppem : goal.invariant-loop-ppem
+invariant-loop-ppem l =
+    AreOn l.source.face.now (λ ppem. job_for ppem l.source.fit l.text l.place.margin) l.place l.least l.source.ppem l.ppem l.left
