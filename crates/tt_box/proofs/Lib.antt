@@ -1,3 +1,4 @@
+pub mod NoneCut
 pub mod RowsFit
 pub mod Sizes
 pub mod Tries

@@ -1,14 +1,17 @@
 //! The sizes of a label in a box, from the greatest down.
 
-ghost use Rattle.std.specs.Prelude.{◌≡◌, ℕ, ◌+◌, ◌≤◌, ◌^◌, IfOk, IfSome};
+ghost use Rattle.std.specs.Prelude.{◌≡◌, ℕ, ◌+◌, ◌≤◌, ◌^◌, Ok, IfOk, IfSome};
 ghost use Rattle.tt_box.specs.Boxes.{box_outcome, is_too_high, least_size, left_after, size_tried, step_at};
-ghost use Rattle.tt_box.specs.Views.{boxed_view, step_view, tried_view};
+ghost use Rattle.tt_box.specs.Views.{FillsBox, boxed_view, step_view, tried_view};
 ghost use Rattle.tt_core.specs.Limits.{size_limit};
 ghost use Rattle.tt_core.specs.Outcomes.{GivesUnless};
+ghost use Rattle.tt_label.specs.Gathered.{gathered, units_glyphs};
 ghost use Rattle.tt_picture.specs.Pictures.{IsReady};
 ghost use Rattle.tt_picture.specs.Unfitted.{ListsOnce};
+ghost use Rattle.tt_strike.specs.Costs.{line_cost};
 ghost use Rattle.tt_strike.specs.Job.{job_for};
 ghost use Rattle.tt_strike.specs.Refusals.{refusal};
+ghost use Rattle.tt_strike.specs.Report.{line_report};
 
 use crate::place::LabelBox;
 use crate::trying::{TriedSize, try_size};
@@ -73,8 +76,7 @@ fn try_at(
     requires low { 1 ≤ ppem }
     requires high { ppem ≤ size_limit }
     ensures exact { GivesUnless refusal tried_view result (size_tried source.now.face.now (job_for ppem source.now.fit text.now place.margin) place) }
-    ensures valid { IfOk result (λ t. IfSome t.picture IsReady) }
-    ensures once { IfOk result (λ t. IfSome t.picture (λ p. ListsOnce p.unfitted)) }
+    ensures fills { IfOk result (λ t. IfSome t.picture (FillsBox source.now.face.now (job_for ppem source.now.fit text.now place.margin) place)) }
 {
     let mut sized = SizedFace::new(source.alloc, source.face, ppem, source.fit)?;
     try_size(&mut sized, text, place)
@@ -99,8 +101,7 @@ fn next_size(
     requires high { ppem ≤ size_limit }
     requires work { IfSome left (λ n. n ≤ 2 ^ 40) }
     ensures exact { GivesUnless refusal step_view result (step_at source.now.face.now (job_for ppem source.now.fit text.now place.margin) place left) }
-    ensures valid { IfOk result (λ t. IfSome t.picture IsReady) }
-    ensures once { IfOk result (λ t. IfSome t.picture (λ p. ListsOnce p.unfitted)) }
+    ensures fills { IfOk result (λ t. IfSome t.picture (FillsBox source.now.face.now (job_for ppem source.now.fit text.now place.margin) place)) }
     ensures bound { IfOk result (λ t. (most : ℕ) → IfSome left (λ n. n ≤ most) → IfSome t.left (λ n. n ≤ most + 4000000)) }
 {
     if is_too_high(source.face, ppem, place) {
@@ -134,7 +135,13 @@ pub fn label_in_box(
 ) -> Result<Option<BoxLabel>, DrawFault>
     ensures exact { GivesUnless refusal boxed_view result (box_outcome source.now.face.now source.now.fit source.now.ppem text.now place) }
     ensures valid { IfOk result (λ r. IfSome r (λ l. IsReady l.picture)) }
+    ensures width { IfOk result (λ r. IfSome r (λ l. l.picture.frame.width ≡ place.width)) }
+    ensures height { IfOk result (λ r. IfSome r (λ l. l.picture.frame.height ≡ place.height)) }
+    ensures report { IfOk result (λ r. IfSome r (λ l. line_report source.now.face.now (job_for l.ppem source.now.fit text.now place.margin)
+        (gathered (units_glyphs source.now.face.now (job_for l.ppem source.now.fit text.now place.margin))) ≡ Ok l.picture.unfitted)) }
     ensures once { IfOk result (λ r. IfSome r (λ l. ListsOnce l.picture.unfitted)) }
+    ensures cost { IfOk result (λ r. IfSome r (λ l. line_cost source.now.face.now (job_for l.ppem source.now.fit text.now place.margin)
+        (gathered (units_glyphs source.now.face.now (job_for l.ppem source.now.fit text.now place.margin))) ≡ Ok l.picture.cost)) }
 {
     test_margin(place.margin)?;
     test_text(text)?;

@@ -1,24 +1,22 @@
 //! A text at a size, in a box.
 
-ghost use Rattle.std.specs.Prelude.{◌≡◌, ◌<◌, ℕ, length, map, All, Bool, IfOk, IfSome, Ok, Option};
+ghost use Rattle.std.specs.Prelude.{◌≡◌, ℕ, map, All, IfOk, IfSome, Option};
 ghost use Rattle.tt_bitmap.specs.declared.ink.LeastBox.{LeastBox};
 ghost use Rattle.tt_box.specs.Boxes.{begun_cost, is_inside, shown_in_box, size_tried};
-ghost use Rattle.tt_box.specs.Views.{AreBoxed, shown_of, tried_view};
+ghost use Rattle.tt_box.specs.Views.{AreBoxed, FillsBox, shown_of, tried_view};
 ghost use Rattle.tt_core.specs.Outcomes.{GivesUnless};
 ghost use Rattle.tt_face.specs.Faces.{Face};
 ghost use Rattle.tt_fit.specs.Fitting.{Fitter};
 ghost use Rattle.tt_label.specs.Begun.{HasStage};
-ghost use Rattle.tt_label.specs.Gathered.{gathered, units_glyphs};
 ghost use Rattle.tt_label.specs.Label.{label_ink};
 ghost use Rattle.tt_label.specs.Views.{placements_of};
 ghost use Rattle.tt_picture.specs.Glyphs.{AreDrawn, numbers_of};
 ghost use Rattle.tt_picture.specs.Lines.{HasGlyphsOf};
 ghost use Rattle.tt_picture.specs.Pictures.{IsReady};
-ghost use Rattle.tt_picture.specs.Unfitted.{ListsOnce, unfitted_standing};
-ghost use Rattle.tt_strike.specs.Costs.{cost_of, line_cost};
+ghost use Rattle.tt_picture.specs.Unfitted.{unfitted_standing};
+ghost use Rattle.tt_strike.specs.Costs.{cost_of};
 ghost use Rattle.tt_strike.specs.Job.{Job};
 ghost use Rattle.tt_strike.specs.Refusals.{refusal};
-ghost use Rattle.tt_strike.specs.Report.{line_report};
 ghost use Rattle.tt_strike.specs.Strikes.{job_by};
 
 use crate::place::LabelBox;
@@ -82,6 +80,7 @@ fn draw_in_box(
         → inked.now.inks.items ≡ map ink (numbers_of inked.now.glyphs.made.items) → AreDrawn maker inked.now.glyphs.made.items
         → shown_of r ≡ shown_in_box place place.margin maker (label_ink ink place.margin (placements_of lines.now)) (placements_of lines.now)) }
     ensures valid { IfOk result (λ r. IfSome r IsReady) }
+    ensures sides { IfOk result (λ r. IfSome r (λ p. (p.frame.width ≡ place.width) × (p.frame.height ≡ place.height))) }
     ensures unfitted { IfOk result (λ r. IfSome r (λ p. p.unfitted ≡ unfitted_standing inked.now.glyphs.made.items)) }
     ensures cost { IfOk result (λ r. IfSome r (λ p. p.cost ≡ inked.now.glyphs.cost)) }
 {
@@ -103,10 +102,7 @@ pub(crate) fn try_size(
     place: LabelBox,
 ) -> Result<TriedSize, DrawFault>
     ensures exact { GivesUnless refusal tried_view result (size_tried sized.old.face (job_by sized.old text.now place.margin) place) }
-    ensures valid { IfOk result (λ t. IfSome t.picture IsReady) }
-    ensures report { IfOk result (λ t. IfSome t.picture (λ p. line_report sized.old.face (job_by sized.old text.now place.margin) (gathered (units_glyphs sized.old.face (job_by sized.old text.now place.margin))) ≡ Ok p.unfitted)) }
-    ensures once { IfOk result (λ t. IfSome t.picture (λ p. ListsOnce p.unfitted)) }
-    ensures cost { IfOk result (λ t. IfSome t.picture (λ p. line_cost sized.old.face (job_by sized.old text.now place.margin) (gathered (units_glyphs sized.old.face (job_by sized.old text.now place.margin))) ≡ Ok p.cost)) }
+    ensures fills { IfOk result (λ t. IfSome t.picture (FillsBox sized.old.face (job_by sized.old text.now place.margin) place)) }
 {
     let alloc = sized.alloc();
     let mut cache = Cache::absent();
