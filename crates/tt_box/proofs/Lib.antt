@@ -1,3 +1,5 @@
+pub mod Filled
+pub mod Greatest
 pub mod NoneCut
 pub mod RowsFit
 pub mod Sizes

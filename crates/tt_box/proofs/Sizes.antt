@@ -1,12 +1,12 @@
 -- The sizes of a label in a box, one after the other.
-use Rattle.std.proofs.Common.{◌≡◌, ◌∙◌, refl, sym, ap, ℕ, suc, zero, ◌+◌, ◌-◌, ◌*◌, ◌^◌, ◌<◌, ◌≤◌, true, false, List, Option, None, Some, Result, Ok, Err, inl, inr, arith}
-use Rattle.std.proofs.lemmas.Bool.{cases_Bool, cases_eq}
+use Rattle.std.proofs.Common.{◌≡◌, ◌∙◌, refl, sym, subst, ap, ℕ, suc, zero, ◌+◌, ◌-◌, ◌*◌, ◌^◌, ◌<◌, ◌≤◌, true, false, List, Option, None, Some, Result, Ok, Err, inl, inr, arith}
+use Rattle.std.proofs.lemmas.Bool.{cases_lt, le-ltb, lt-ltb}
 use Rattle.std.specs.Prelude.{IfSome, ◌⊎◌}
-use Rattle.tt_box.specs.BoxLaws.{DoesNotFit, NoSizeIsLeft, SizesAreGreatest}
 use Rattle.tt_box.specs.Boxes.{Boxed, Stepped, Tried, box_outcome, boxed_from, boxed_or, is_too_high, least_size, left_after, size_tried, some_left, step_at}
 use Rattle.tt_box.specs.declared.place.LabelBox.{LabelBox}
 use Rattle.tt_core.specs.Chains.{came-through}
 use Rattle.tt_core.specs.declared.draw_fault.DrawFault.{DrawFault}
+use Rattle.tt_core.specs.declared.fault.JobFault.{JobFault}
 use Rattle.tt_core.specs.declared.fault.JobFault.TheVariants as fault
 use Rattle.tt_core.specs.Outcomes.{◌>>=◌}
 use Rattle.tt_face.specs.Faces.{Face}
@@ -57,68 +57,27 @@ pub none_left : (face : Face) (a : ℕ → Job) (b : LabelBox) (least n : ℕ) (
 none_left face a b least n left none = rw none refl
 
 -- a text and a margin that are tested
-pub box_margin : (face : Face) (how : Fit) (greatest : ℕ) (text : List ℕ) (b : LabelBox) (e : DrawFault)
-    → IfSome (refusal e) (λ r. as_job (margin_tested b.margin) ≡ Err r) → IfSome (refusal e) (λ r. box_outcome face how greatest text b ≡ Err r)
+pub box_margin : (face : Face) (how : Fit) (greatest : ℕ) (text : List ℕ) (b : LabelBox) (j : JobFault) → margin_tested b.margin ≡ Err j
+    → box_outcome face how greatest text b ≡ Err (job j)
 unfolding box_outcome
-box_margin face how greatest text b e = stops e (as_job (margin_tested b.margin)) (box_outcome face how greatest text b) (λ r fails. rw fails refl)
+box_margin face how greatest text b j fails = rw fails refl
 
-pub box_text : (face : Face) (how : Fit) (greatest : ℕ) (text : List ℕ) (b : LabelBox) (e : DrawFault) → margin_tested b.margin ≡ Ok tt
-    → IfSome (refusal e) (λ r. as_job (text_tested text) ≡ Err r) → IfSome (refusal e) (λ r. box_outcome face how greatest text b ≡ Err r)
+pub box_text : (face : Face) (how : Fit) (greatest : ℕ) (text : List ℕ) (b : LabelBox) (j : JobFault) → margin_tested b.margin ≡ Ok tt
+    → text_tested text ≡ Err j → box_outcome face how greatest text b ≡ Err (job j)
 unfolding box_outcome
-box_text face how greatest text b e near = stops e (as_job (text_tested text)) (box_outcome face how greatest text b) (λ r fails. rw (near, fails) refl)
+box_text face how greatest text b j near fails = rw (near, fails) refl
 
-pub box_tested : (face : Face) (how : Fit) (greatest : ℕ) (text : List ℕ) (b : LabelBox) → margin_tested b.margin ≡ Ok tt → text_tested text ≡ Ok tt
+box_tested : (face : Face) (how : Fit) (greatest : ℕ) (text : List ℕ) (b : LabelBox) → margin_tested b.margin ≡ Ok tt → text_tested text ≡ Ok tt
     → box_outcome face how greatest text b
     ≡ boxed_from face (λ ppem. job_for ppem how text b.margin) b (least_size greatest) (suc (greatest - least_size greatest)) (Some 10000000)
 unfolding box_outcome
 box_tested face how greatest text b near short = rw (near, short) refl
 
--- a size without a picture does not fit
-not_fitted : (face : Face) (a : Job) (b : LabelBox) (left : Option ℕ) (t : Stepped) → step_at face a b left ≡ Ok t → t.shown ≡ None → DoesNotFit face a b
-unfolding step_at
-not_fitted face a b left t is none = elim (cases_Bool (is_too_high face b a.ppem)) [
-  | inl high ↦ inl high
-  | inr low ↦ (
-      let was = rw low at is in
-      let work = came-through (some_left left) (λ w. size_tried face a b >>= λ s. Ok (record { shown = s.shown; left = left_after w s.cost })) t was in
-      let tried = came-through (size_tried face a b) (λ s. Ok (record { shown = s.shown; left = left_after work.value s.cost })) t work.rest in
-      let last = tried.rest in
-      let whole : record { shown = tried.value.shown; left = left_after work.value tried.value.cost } ≡ t = cc in
-      inr (tried.value, tried.first, rw (← whole) at none)
-      )
+pub least_is_low : (greatest : ℕ) → least_size greatest ≤ greatest
+least_is_low greatest = elim (cases_lt greatest 5) [
+  | inl below ↦ rw (lt-ltb greatest 5 below) (omega arith)
+  | inr over ↦ rw (le-ltb greatest 5 over) over
 ]
-
-greatest_found : (face : Face) (a : ℕ → Job) (b : LabelBox) (least p : ℕ) (shown : Option Image) (others : Result (Option Boxed) Refused) (d : Boxed)
-    → boxed_or p shown others ≡ Ok (Some d) → (d.ppem ≡ p) ⊎ ((shown ≡ None) × (others ≡ Ok (Some d)))
-greatest_found face a b least p (Some i) others d is =
-    let same : record { ppem = p; shown = i } ≡ d = cc in inl (rw (← same) refl)
-greatest_found face a b least p None others d is = inr (refl, is)
-
-pub greatest : SizesAreGreatest
-greatest face a b least zero left d is ppem above below = absurd cc
-greatest face a b least (suc n) left d is ppem above below =
-    let first = came-through (step_at face (a (least + n)) b left) (λ t. boxed_or (least + n) t.shown (boxed_from face a b least n t.left)) (Some d) is in
-    elim (greatest_found face a b least (least + n) first.value.shown (boxed_from face a b least n first.value.left) d first.rest) [
-      | inl found ↦ absurd (omega (arith, found, above, below))
-      | inr later ↦ elim (cases_eq ppem (least + n)) [
-        | inl here ↦ rw here (not_fitted face (a (least + n)) b left first.value first.first later.0)
-        | inr other ↦ greatest face a b least n first.value.left d later.1 ppem above (omega (arith, other, below))
-      ]
-    ]
-
-none_found : (p : ℕ) (shown : Option Image) (others : Result (Option Boxed) Refused) → boxed_or p shown others ≡ Ok None → (shown ≡ None) × (others ≡ Ok None)
-none_found p (Some i) others is = absurd cc
-none_found p None others is = (refl, is)
-
-pub none_fits : NoSizeIsLeft
-none_fits face a b least zero left is ppem from below = absurd (omega (arith, from, below))
-none_fits face a b least (suc n) left is ppem from below =
-    let first = came-through (step_at face (a (least + n)) b left) (λ t. boxed_or (least + n) t.shown (boxed_from face a b least n t.left)) None is in
-    let none = none_found (least + n) first.value.shown (boxed_from face a b least n first.value.left) first.rest in
-    elim (cases_eq ppem (least + n)) [
-      | inl here ↦ rw here (not_fitted face (a (least + n)) b left first.value first.first none.0)
-      | inr other ↦ none_fits face a b least n first.value.left none.1 ppem from (omega (arith, other, below))
-    ]
 
 -- sizes that are left, from a size on down, with the work that is left
 pub record AreOn (face : Face) (a : ℕ → Job) (b : LabelBox) (least greatest ppem : ℕ) (left : Option ℕ) : Type 0 where
@@ -154,17 +113,59 @@ pub work_after : (ppem next : ℕ) (left : Option ℕ) → next + 1 ≡ ppem →
 work_after ppem next left one few =
     weaker_some (λ n. n ≤ (2 ^ 40 - 4000000 * ppem) + 4000000) (λ n. n + 4000000 * next ≤ 2 ^ 40) left (λ n below. omega (arith, below, one, few))
 
-pub next_on : (face : Face) (a : ℕ → Job) (b : LabelBox) (least greatest ppem next : ℕ) (left : Option ℕ) (t : Stepped) → greatest ≤ 300
-    → AreOn face a b least greatest ppem left → least < ppem → next + 1 ≡ ppem → step_at face (a next) b left ≡ Ok t → t.shown ≡ None
+pub next_on : (face : Face) (a : ℕ → Job) (b : LabelBox) (least greatest ppem : ℕ) (left : Option ℕ) (t : Stepped) → greatest ≤ 300
+    → AreOn face a b least greatest ppem left → least < ppem → step_at face (a (ppem - 1)) b left ≡ Ok t → t.shown ≡ None
     → ((most : ℕ) → IfSome left (λ n. n ≤ most) → IfSome t.left (λ n. n ≤ most + 4000000))
-    → AreOn face a b least greatest next t.left
-next_on face a b least greatest ppem next left t few are above one is none bound =
+    → AreOn face a b least greatest (ppem - 1) t.left
+next_on face a b least greatest ppem left t few are above is none bound =
     let high = are.high in
-    let more : ppem - least ≡ suc (next - least) = omega (arith, above, one) in
-    let at : next ≡ least + (next - least) = omega (arith, above, one) in
+    let next = ppem - 1 in
+    let one : next + 1 ≡ ppem = omega (arith, above) in
+    let more : ppem - least ≡ suc (next - least) = omega (arith, above) in
+    let at : next ≡ least + (next - least) = omega (arith, above) in
     record {
       same = sym (next_left face a b least (ppem - least) (next - least) next left t more at is none) ∙ are.same;
-      low = omega (arith, above, one);
-      high = omega (arith, one, high);
+      low = omega (arith, above);
+      high = omega (arith, high);
       work = work_after ppem next t.left one (omega (arith, high, few)) (bound (2 ^ 40 - 4000000 * ppem) (work_within ppem left are.work));
     }
+
+-- the answer for the box is that of the sizes that are left
+box_on : (face : Face) (how : Fit) (greatest : ℕ) (text : List ℕ) (b : LabelBox) (least ppem : ℕ) (left : Option ℕ) → margin_tested b.margin ≡ Ok tt
+    → text_tested text ≡ Ok tt → least ≡ least_size greatest → AreOn face (λ n. job_for n how text b.margin) b least greatest ppem left
+    → box_outcome face how greatest text b ≡ boxed_from face (λ n. job_for n how text b.margin) b least (ppem - least) left
+box_on face how greatest text b least ppem left near short is are =
+    let P : ℕ → Type 0 = λ l. box_outcome face how greatest text b
+    ≡ boxed_from face (λ n. job_for n how text b.margin) b l (suc (greatest - l)) (Some 10000000) in
+    subst P (sym is) (box_tested face how greatest text b near short) ∙ sym are.same
+
+pub box_stops : (face : Face) (how : Fit) (greatest : ℕ) (text : List ℕ) (b : LabelBox) (least ppem : ℕ) (left : Option ℕ) (e : DrawFault) → margin_tested b.margin ≡ Ok tt
+    → text_tested text ≡ Ok tt → least ≡ least_size greatest → AreOn face (λ n. job_for n how text b.margin) b least greatest ppem left → least < ppem
+    → IfSome (refusal e) (λ r. step_at face (job_for (ppem - 1) how text b.margin) b left ≡ Err r)
+    → IfSome (refusal e) (λ r. box_outcome face how greatest text b ≡ Err r)
+box_stops face how greatest text b least ppem left e near short is are above =
+    let next = ppem - 1 in
+    let more : ppem - least ≡ suc (next - least) = omega (arith, above) in
+    let at : next ≡ least + (next - least) = omega (arith, above) in
+    stops e (step_at face (job_for next how text b.margin) b left) (box_outcome face how greatest text b) (λ r fails.
+    box_on face how greatest text b least ppem left near short is are
+    ∙ next_stops face (λ n. job_for n how text b.margin) b least (ppem - least) (next - least) next left r more at fails)
+
+pub box_found : (face : Face) (how : Fit) (greatest : ℕ) (text : List ℕ) (b : LabelBox) (least ppem : ℕ) (left : Option ℕ) (t : Stepped) (i : Image)
+    → margin_tested b.margin ≡ Ok tt → text_tested text ≡ Ok tt → least ≡ least_size greatest
+    → AreOn face (λ n. job_for n how text b.margin) b least greatest ppem left → least < ppem
+    → step_at face (job_for (ppem - 1) how text b.margin) b left ≡ Ok t → t.shown ≡ Some i
+    → box_outcome face how greatest text b ≡ Ok (Some (record { ppem = ppem - 1; shown = i }))
+box_found face how greatest text b least ppem left t i near short is are above tried shown =
+    let next = ppem - 1 in
+    let more : ppem - least ≡ suc (next - least) = omega (arith, above) in
+    let at : next ≡ least + (next - least) = omega (arith, above) in
+    box_on face how greatest text b least ppem left near short is are
+    ∙ next_found face (λ n. job_for n how text b.margin) b least (ppem - least) (next - least) next left t i more at tried shown
+
+pub box_empty : (face : Face) (how : Fit) (greatest : ℕ) (text : List ℕ) (b : LabelBox) (least ppem : ℕ) (left : Option ℕ) → margin_tested b.margin ≡ Ok tt
+    → text_tested text ≡ Ok tt → least ≡ least_size greatest → AreOn face (λ n. job_for n how text b.margin) b least greatest ppem left → ppem ≤ least
+    → box_outcome face how greatest text b ≡ Ok None
+box_empty face how greatest text b least ppem left near short is are over =
+    box_on face how greatest text b least ppem left near short is are
+    ∙ none_left face (λ n. job_for n how text b.margin) b least (ppem - least) left (omega (arith, over))

@@ -1,13 +1,14 @@
 -- A text at a size, in a box.
-use Rattle.std.proofs.Common.{◌≡◌, ◌∙◌, refl, sym, ap, ℕ, ◌<◌, ◌≤◌, true, false, List, length, map, Option, None, Some, Result, Ok, Err, arith}
+use Rattle.std.proofs.Common.{◌≡◌, ◌∙◌, refl, sym, ap, ℕ, ◌<◌, ◌≤◌, true, false, List, [], ◌∷◌, length, map, Option, None, Some, Result, Ok, Err, arith}
 use Rattle.std.proofs.lemmas.List.{length-map}
-use Rattle.std.proofs.lemmas.List.Elements.{All-weaker}
+use Rattle.std.proofs.lemmas.List.Elements.{All-head}
 use Rattle.std.specs.Prelude.{All, IfSome}
 use Rattle.tt_bitmap.specs.declared.ink.LeastBox.{LeastBox}
 use Rattle.tt_box.specs.Boxes.{Tried, begun_cost, is_inside, laid_if_fits, shown_in_box, size_tried}
 use Rattle.tt_box.specs.declared.place.LabelBox.{LabelBox}
 use Rattle.tt_box.specs.Views.{AreBoxed}
 use Rattle.tt_core.specs.declared.draw_fault.DrawFault.{DrawFault}
+use Rattle.tt_core.specs.declared.fault.JobFault.{JobFault}
 use Rattle.tt_face.specs.Faces.{Face}
 use Rattle.tt_fit.specs.Fitting.{Fitter}
 use Rattle.tt_label.specs.Begun.{HasStage, begun_outcome}
@@ -18,6 +19,7 @@ use Rattle.tt_label.specs.Label.{joint, label_ink, some_line_shows}
 use Rattle.tt_label.specs.Made.{AreAlike}
 use Rattle.tt_label.specs.Views.{placements_of}
 use Rattle.tt_label.proofs.Larger.{of_one_size}
+use Rattle.tt_label.proofs.RowsPlaced.{HasSize}
 use Rattle.tt_label.proofs.UnitGlyphs.{at_zero, zero_numbers}
 use Rattle.tt_label_rows.specs.declared.heights.RowHeights.{RowHeights}
 use Rattle.tt_label_rows.specs.Heights.{row_heights}
@@ -30,11 +32,11 @@ use Rattle.tt_picture.specs.Shapes.{crossings_in}
 use Rattle.tt_rows.specs.declared.unit.RowUnit.{RowUnit}
 use Rattle.tt_strike.specs.Costs.{cost_of}
 use Rattle.tt_strike.specs.declared.laid.Laid.{Laid}
-use Rattle.tt_strike.specs.Job.{Job}
+use Rattle.tt_strike.specs.Job.{Job, size_tested, tested}
 use Rattle.tt_strike.specs.Made.{shapes_made}
 use Rattle.tt_strike.specs.Measures.{line_ink}
 use Rattle.tt_strike.specs.Picture.{frame_of, setting_in}
-use Rattle.tt_strike.specs.Refusals.{Refused, refusal}
+use Rattle.tt_strike.specs.Refusals.{Refused, job, refusal}
 use Rattle.tt_strike.specs.Work.{is_bounded, line_fitter, work_left}
 use Rattle.tt_strike.proofs.Costed.{costed}
 use Rattle.tt_strike.proofs.Stopped.{stops}
@@ -57,11 +59,20 @@ pub outside_not : (b : LabelBox) (margin : ℕ) (maker : ℕ → Fitter) (ink ot
     → is_inside b.width b.height ink ≡ false → shown_in_box b margin maker other lines ≡ None
 outside_not b margin maker ink other lines same outside = let there = rw same at outside in rw there refl
 
+-- the size of their picture
+pub joint_sized : (w h : ℕ) (ls : List Placement) → 1 ≤ length ls → All (HasSize w h) ls → ((joint ls).width ≡ w) × ((joint ls).height ≡ h)
+joint_sized w h [] some all = absurd (omega (arith, some))
+joint_sized w h (l ∷ ls) some all = All-head (HasSize w h) l ls all
+
 -- the lines of a box are alike
 pub alike_boxed : (b : LabelBox) (lines : List Laid) → AreBoxed b lines → AreAlike (placements_of lines)
 alike_boxed b lines are = of_one_size b.width b.height (placements_of lines) are.sizes
 
 -- where a size stops
+pub size_untested : (face : Face) (a : Job) (b : LabelBox) (j : JobFault) → size_tested a.ppem ≡ Err j → size_tried face a b ≡ Err (job j)
+unfolding size_tried tested
+size_untested face a b j fails = rw fails refl
+
 pub begun_stops_size : (face : Face) (a : Job) (b : LabelBox) (e : DrawFault) → IfSome (refusal e) (λ r. begun_outcome face a ≡ Err r)
     → IfSome (refusal e) (λ r. size_tried face a b ≡ Err r)
 unfolding size_tried

@@ -85,19 +85,19 @@ size_tried face a b =
 abbrev pub is_too_high : Face → LabelBox → ℕ → Bool
 is_too_high face b ppem = not (is_low (row_heights face.metrics ppem) 0 b.height b.margin)
 
--- the work that is left before the first size is tried, and the work that is left after one: none where it took more
+-- the work that remains before the first size is tried, and after one: none where the size took more
 abbrev pub box_work : ℕ
 box_work = 10000000
 
 abbrev pub left_after : ℕ → ℕ → Option ℕ
 left_after left cost = if nat_lt (left + 4000000) cost then None else Some (left + 4000000 - cost)
 
--- the work that is left, or the refusal
+-- the work that remains, or the refusal
 abbrev pub some_left : Option ℕ → Result ℕ Refused
 some_left None = Err (job fault.WorkLarge)
 some_left (Some left) = Ok left
 
--- a size that was tried or is too high: its picture, if the text fits, and the work that is left for the next
+-- a size that was tried or is too high: its picture, if the text fits, and the work that remains
 pub record Stepped : Type 0 where
   pub shown : Option Image
   pub left : Option ℕ
@@ -118,7 +118,7 @@ abbrev pub boxed_or : ℕ → Option Image → Result (Option Boxed) Refused →
 boxed_or ppem (Some i) others = Ok (Some (record { ppem = ppem; shown = i }))
 boxed_or ppem None others = others
 
--- the first of so many sizes that fits, from the greatest down to a least one, with the work that is left
+-- the first of n sizes that fits, from the greatest down to a least one, with the work that remains
 abbrev pub boxed_from : Face → (ℕ → Job) → LabelBox → ℕ → ℕ → Option ℕ → Result (Option Boxed) Refused
 boxed_from face a b least zero left = Ok None
 boxed_from face a b least (suc n) left =
@@ -155,6 +155,6 @@ ink_below_the_last_row = refl
 least_sizes : map least_size (300 ∷ 5 ∷ 4 ∷ 1 ∷ []) ≡ 5 ∷ 5 ∷ 4 ∷ 1 ∷ []
 least_sizes = refl
 
--- a size may take what is left and 4,000,000 more; the next is then refused
+-- a size may take what remains and 4,000,000 more; the next is then refused
 work_after : map (left_after 10000000) (5000000 ∷ 14000000 ∷ 14000001 ∷ []) ≡ Some 9000000 ∷ Some 0 ∷ None ∷ []
 work_after = refl

@@ -1,5 +1,5 @@
 -- No part of the standard: the definitions' views of rows in a box, of a tried size, and of a picture that fills a box.
-use Rattle.std.specs.Prelude.{◌≡◌, ◌≤◌, ℕ, All, List, Option, None, Some, Ok, Vec, length}
+use Rattle.std.specs.Prelude.{◌≡◌, ◌≤◌, ℕ, All, List, Option, None, Some, Ok, Vec, length, map}
 use Rattle.std.specs.Global.{Global}
 use Rattle.tt_box.specs.Boxes.{Boxed, Stepped, Tried}
 use Rattle.tt_box.specs.declared.boxing.BoxLabel.{BoxLabel}
@@ -9,13 +9,19 @@ use Rattle.tt_box.specs.declared.trying.TriedSize.{TriedSize}
 use Rattle.tt_face.specs.Faces.{Face}
 use Rattle.tt_label.specs.Gathered.{gathered, units_glyphs}
 use Rattle.tt_label.specs.Views.{placements_of}
+use Rattle.tt_line.specs.declared.line.Line.{Line}
 use Rattle.tt_line.specs.Layout.{Placement}
+use Rattle.tt_line.specs.Outcome.{placement_of}
 use Rattle.tt_picture.specs.Pictures.{Image, IsReady, Picture, image_of}
 use Rattle.tt_picture.specs.Unfitted.{ListsOnce}
 use Rattle.tt_strike.specs.Costs.{line_cost}
 use Rattle.tt_strike.specs.declared.laid.Laid.{Laid}
 use Rattle.tt_strike.specs.Job.{Job}
 use Rattle.tt_strike.specs.Report.{line_report}
+
+abbrev pub lines_of : Option (Vec Line Global) → Option (List Placement)
+lines_of None = None
+lines_of (Some v) = Some (map placement_of v.items)
 
 abbrev pub rows_of : Option (Vec Laid Global) → Option (List Placement)
 rows_of None = None

@@ -21,7 +21,7 @@ use tt_label_rows::{is_low, row_heights};
 use tt_picture::Picture;
 use tt_strike::{FitterSource, SizedFace, test_margin, test_text};
 
-/// The work that is left before the first size is tried, and what each size adds.
+/// The work that remains before the first size is tried, and what each size adds.
 const BOX_WORK: u64 = 10_000_000;
 
 const SIZE_WORK: u64 = 4_000_000;
@@ -40,7 +40,7 @@ fn least_size(greatest: u32) -> u32
     if greatest < 5 { greatest } else { 5 }
 }
 
-/// The work that is left after a size was tried, or none where it took more.
+/// The work that remains after a size was tried, or none where the size took more.
 fn left_after(left: u64, cost: u64) -> Option<u64>
     requires { left ≤ 2 ^ 40 }
     ensures exact { result ≡ left_after left cost }
@@ -82,14 +82,14 @@ fn try_at(
     try_size(&mut sized, text, place)
 }
 
-/// A size that was tried or is too high: its picture, if the text fits, and the work that is left for the next.
+/// A size that was tried or is too high: its picture, if the text fits, and the work that remains.
 #[derive(Drop)]
 pub struct SizeStep {
     pub picture: Option<Picture>,
     pub left: Option<u64>,
 }
 
-/// The next size, in a box. Errors: WorkLarge where no work is left; those of a size that is tried.
+/// The next size, in a box. Errors: WorkLarge where no work remains; those of a size that is tried.
 fn next_size(
     source: &FitterSource,
     ppem: u32,
@@ -121,9 +121,9 @@ fn next_size(
     })
 }
 
-/// The picture of a text that fills a box, at the greatest size of at most `source.ppem` at which no word is broken, no row
-/// is wider than the room between the margins, the rows are no higher than it, and no ink lies outside of the box. None
-/// where the text fits at no size down to 5.
+/// The picture of a text that fills a box, at the greatest size in pixels per em, of at most `source.ppem`, at which the
+/// text fits: no word is broken, no row is wider or higher than the room between the margins, nor all rows together, and
+/// no ink lies outside of the box. None where the text fits at no size down to 5.
 ///
 /// Errors, the first of: MarginRange, TextLong; those of a size that is tried (`try_size`), or WorkLarge where the sizes
 /// tried before it took more than 10,000,000 units of work and 4,000,000 for each of them. Memory may come at any

@@ -47,7 +47,7 @@ fn is_inside(width: u32, height: u32, ink: Option<InkBox>) -> bool
     above && below
 }
 
-/// The work that was taken, by what is left. Nothing is counted where work is not bounded.
+/// The work that was taken, by what remains. Nothing is counted where work is not bounded.
 fn work_taken(left: Option<u64>) -> u64
     ensures { result ≡ cost_of left 0 }
 {
@@ -112,7 +112,9 @@ pub(crate) fn try_size(
         gathered,
         stage,
     } = begun;
-    let heights = row_heights(sized.face().metrics(), sized.ppem());
+    let metrics = sized.face().metrics();
+    let ppem = sized.ppem();
+    let heights = row_heights(metrics, ppem);
     let rows = rows_in_box(alloc, heights, &lines, place)?;
     let Some(rows) = rows else {
         return Ok(TriedSize {

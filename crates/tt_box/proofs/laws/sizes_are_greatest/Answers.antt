@@ -1,4 +1,4 @@
-use Rattle.tt_box.proofs.Sizes.{greatest, none_fits}
+use Rattle.tt_box.proofs.Greatest.{greatest, none_fits}
 use Rattle.tt_box.proofs.laws.sizes_are_greatest.Goals as goal
 
 pub returns-clause-greatest : goal.returns-clause-greatest

@@ -1,11 +1,14 @@
 use Rattle.std.proofs.Common.{◌≡◌, ◌∙◌, refl, ap, sym, ℕ, Bool, Ok, Some, arith}
+use Rattle.std.proofs.lemmas.List.{length-map}
 use Rattle.std.specs.Prelude.{All}
-use Rattle.tt_box.proofs.Tries.{alike_boxed, inside_shown, outside_not}
+use Rattle.tt_box.proofs.Tries.{alike_boxed, inside_shown, joint_sized, outside_not}
 use Rattle.tt_label.specs.Label.{joint, some_line_shows}
 use Rattle.tt_label.specs.Views.{placements_of}
 use Rattle.tt_label.proofs.Larger.{first_frame}
 use Rattle.tt_label.proofs.Shown.{are_lines, placed_image}
+use Rattle.tt_line.specs.Outcome.{placement_of}
 use Rattle.tt_picture.specs.Glyphs.{numbers_of}
+use Rattle.tt_strike.specs.declared.laid.Laid.{Laid}
 use Rattle.tt_strike.specs.Picture.{frame_of}
 use Rattle.tt_box.proofs.trying.draw_in_box.Goals.{After-frame-frame}
 use Rattle.tt_box.proofs.trying.draw_in_box.Goals as goal
@@ -38,3 +41,12 @@ returns-clause-exact c = λ ink maker inks drawn.
     let shown = inside_shown c.args.place margin maker c.label_ink-ink.result _ (placements_of c.args.lines.now)
     (c.label_ink-ink.ensures ink margin inks c.requires.boxed.margins) (sym c.is_inside.ensures ∙ c.if-not-is_inside.false) in
     ap Some (rw frame at whole) ∙ sym shown
+
+pub returns-clause-sides : goal.returns-clause-sides
+returns-clause-sides c =
+    let at = goal.at.returns-clause-sides c in
+    let frame = frame_then at.After-frame-frame in
+    let many = length-map c.args.lines.now (λ (l : Laid). placement_of l.line) in
+    let some = c.requires.boxed.some in
+    rw (c.in_ok-new.ensures.frame, frame)
+    (joint_sized c.args.place.width c.args.place.height (placements_of c.args.lines.now) (omega (arith, many, some)) c.requires.boxed.sizes)
