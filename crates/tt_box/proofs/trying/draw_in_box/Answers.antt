@@ -16,7 +16,7 @@ use Rattle.tt_box.proofs.trying.draw_in_box.Goals as goal
 frame_then : (c : After-frame-frame) → c.frame-frame.result ≡ frame_of (joint (placements_of c.args.lines.now)) c.args.place.margin
 frame_then c =
     c.frame-frame.ensures.exact
-    ∙ first_frame c.args.lines.now c.lines-item.result c.args.place.margin c.requires.boxed.some c.lines-item.is c.requires.boxed.margins
+    ∙ first_frame c.args.lines.now c.index-lines-0.result c.args.place.margin c.requires.boxed.some c.index-lines-0.is c.requires.boxed.margins
 
 pub new-requires-clause-lines : goal.new-requires-clause-lines
 new-requires-clause-lines c =
