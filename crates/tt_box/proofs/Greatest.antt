@@ -1,9 +1,9 @@
 -- A size with a picture is the greatest that fits.
-use Rattle.std.proofs.Common.{◌≡◌, ◌∙◌, refl, sym, ap, ℕ, suc, zero, ◌+◌, ◌-◌, ◌<◌, ◌≤◌, true, false, List, Option, None, Some, Result, Ok, Err, inl, inr, arith}
+use Rattle.std.proofs.Common.{◌≡◌, refl, ℕ, suc, zero, ◌+◌, Option, None, Some, Result, Ok, inl, inr, arith}
 use Rattle.std.proofs.lemmas.Bool.{cases_Bool, cases_eq}
 use Rattle.std.specs.Prelude.{◌⊎◌}
 use Rattle.tt_box.specs.BoxLaws.{DoesNotFit, NoSizeIsLeft, SizesAreGreatest}
-use Rattle.tt_box.specs.Boxes.{Boxed, Stepped, Tried, boxed_from, boxed_or, is_too_high, left_after, size_tried, some_left, step_at}
+use Rattle.tt_box.specs.Boxes.{Boxed, Stepped, boxed_from, boxed_or, is_too_high, left_after, size_tried, some_left, step_at}
 use Rattle.tt_box.specs.declared.place.LabelBox.{LabelBox}
 use Rattle.tt_core.specs.Chains.{came-through}
 use Rattle.tt_core.specs.Outcomes.{◌>>=◌}
@@ -58,4 +58,3 @@ none_fits face a b least (suc n) left is ppem from below =
       | inl here ↦ rw here (not_fitted face (a (least + n)) b left first.value first.first none.0)
       | inr other ↦ none_fits face a b least n first.value.left none.1 ppem from (omega (arith, other, below))
     ]
-

@@ -1,9 +1,9 @@
 -- The picture of a box shows rows that fit, and cuts no ink.
-use Rattle.std.proofs.Common.{◌≡◌, refl, ℕ, suc, zero, ◌+◌, true, false, List, Option, None, Some, Result, Ok, inl, inr}
+use Rattle.std.proofs.Common.{◌≡◌, refl, ℕ, suc, zero, ◌+◌, true, List, Option, None, Some, Result, Ok, inl, inr}
 use Rattle.std.proofs.lemmas.Bool.{cases_Bool}
 use Rattle.std.specs.Prelude.{◌⊎◌}
 use Rattle.tt_box.specs.BoxLaws.{BoxesCutNone, ShowsRows}
-use Rattle.tt_box.specs.Boxes.{Boxed, Stepped, Tried, begun_cost, boxed_from, boxed_or, drawn_in_box, is_inside, is_too_high, laid_if_fits, left_after, shown_in_box, size_tried, some_left, step_at, tried_rows}
+use Rattle.tt_box.specs.Boxes.{Boxed, Stepped, Tried, begun_cost, boxed_from, boxed_or, is_inside, is_too_high, laid_if_fits, left_after, shown_in_box, size_tried, some_left, step_at, tried_rows}
 use Rattle.tt_box.specs.declared.place.LabelBox.{LabelBox}
 use Rattle.tt_core.specs.Chains.{came-through}
 use Rattle.tt_core.specs.Outcomes.{◌>>=◌}
@@ -54,8 +54,7 @@ size_shown : (face : Face) (a : Job) (b : LabelBox) (t : Tried) (i : Image) → 
     → (s : Fitter) × ((lines : List Placement) × ShowsRows face a b i s lines)
 unfolding size_tried
 size_shown face a b t i is shown =
-    let through = came-through (begun_outcome face a) (λ s. tried_rows face a b s (laid_if_fits (row_heights face.metrics a.ppem) b (units_in face a s))) t is in
-    (
+    let through = came-through (begun_outcome face a) (λ s. tried_rows face a b s (laid_if_fits (row_heights face.metrics a.ppem) b (units_in face a s))) t is in (
       through.value,
       rows_shown face a b through.value (laid_if_fits (row_heights face.metrics a.ppem) b (units_in face a through.value)) t i through.first refl through.rest shown,
     )

@@ -1,19 +1,17 @@
 -- The sizes of a label in a box, one after the other.
-use Rattle.std.proofs.Common.{◌≡◌, ◌∙◌, refl, sym, subst, ap, ℕ, suc, zero, ◌+◌, ◌-◌, ◌*◌, ◌^◌, ◌<◌, ◌≤◌, true, false, List, Option, None, Some, Result, Ok, Err, inl, inr, arith}
+use Rattle.std.proofs.Common.{◌≡◌, ◌∙◌, refl, sym, subst, ℕ, suc, ◌+◌, ◌-◌, ◌*◌, ◌^◌, ◌<◌, ◌≤◌, true, false, List, Option, None, Some, Ok, Err, inl, inr, arith}
 use Rattle.std.proofs.lemmas.Bool.{cases_lt, le-ltb, lt-ltb}
-use Rattle.std.specs.Prelude.{IfSome, ◌⊎◌}
-use Rattle.tt_box.specs.Boxes.{Boxed, Stepped, Tried, box_outcome, boxed_from, boxed_or, is_too_high, least_size, left_after, size_tried, some_left, step_at}
+use Rattle.std.specs.Prelude.{IfSome}
+use Rattle.tt_box.specs.Boxes.{Stepped, Tried, box_outcome, boxed_from, is_too_high, least_size, left_after, size_tried, step_at}
 use Rattle.tt_box.specs.declared.place.LabelBox.{LabelBox}
-use Rattle.tt_core.specs.Chains.{came-through}
 use Rattle.tt_core.specs.declared.draw_fault.DrawFault.{DrawFault}
 use Rattle.tt_core.specs.declared.fault.JobFault.{JobFault}
 use Rattle.tt_core.specs.declared.fault.JobFault.TheVariants as fault
-use Rattle.tt_core.specs.Outcomes.{◌>>=◌}
 use Rattle.tt_face.specs.Faces.{Face}
 use Rattle.tt_fit.specs.declared.programs.Fit.{Fit}
 use Rattle.tt_picture.specs.Pictures.{Image}
 use Rattle.tt_strike.specs.Job.{Job, job_for, margin_tested, text_tested}
-use Rattle.tt_strike.specs.Refusals.{Refused, as_job, job, refusal}
+use Rattle.tt_strike.specs.Refusals.{Refused, job, refusal}
 use Rattle.tt_strike.proofs.Stopped.{stops}
 
 -- one size

@@ -1,30 +1,25 @@
 -- A text at a size, in a box.
-use Rattle.std.proofs.Common.{◌≡◌, ◌∙◌, refl, sym, ap, ℕ, ◌<◌, ◌≤◌, true, false, List, [], ◌∷◌, length, map, Option, None, Some, Result, Ok, Err, arith}
-use Rattle.std.proofs.lemmas.List.{length-map}
+use Rattle.std.proofs.Common.{◌≡◌, ◌∙◌, refl, sym, ℕ, ◌≤◌, true, false, List, [], ◌∷◌, length, Option, None, Some, Result, Ok, Err, arith}
 use Rattle.std.proofs.lemmas.List.Elements.{All-head}
 use Rattle.std.specs.Prelude.{All, IfSome}
-use Rattle.tt_bitmap.specs.declared.ink.LeastBox.{LeastBox}
-use Rattle.tt_box.specs.Boxes.{Tried, begun_cost, is_inside, laid_if_fits, shown_in_box, size_tried}
+use Rattle.tt_box.specs.Boxes.{begun_cost, is_inside, laid_if_fits, shown_in_box, size_tried}
 use Rattle.tt_box.specs.declared.place.LabelBox.{LabelBox}
 use Rattle.tt_box.specs.Views.{AreBoxed}
 use Rattle.tt_core.specs.declared.draw_fault.DrawFault.{DrawFault}
 use Rattle.tt_core.specs.declared.fault.JobFault.{JobFault}
 use Rattle.tt_face.specs.Faces.{Face}
 use Rattle.tt_fit.specs.Fitting.{Fitter}
-use Rattle.tt_label.specs.Begun.{HasStage, begun_outcome}
-use Rattle.tt_label.specs.declared.begun.Stage.{Stage}
-use Rattle.tt_label.specs.declared.begun.Stage.TheVariants as stage
+use Rattle.tt_label.specs.Begun.{begun_outcome}
 use Rattle.tt_label.specs.Gathered.{AreReady, gathered, units_glyphs, units_in}
 use Rattle.tt_label.specs.Label.{joint, label_ink, some_line_shows}
 use Rattle.tt_label.specs.Made.{AreAlike}
 use Rattle.tt_label.specs.Views.{placements_of}
 use Rattle.tt_label.proofs.Larger.{of_one_size}
 use Rattle.tt_label.proofs.RowsPlaced.{HasSize}
-use Rattle.tt_label.proofs.UnitGlyphs.{at_zero, zero_numbers}
+use Rattle.tt_label.proofs.UnitGlyphs.{zero_numbers}
 use Rattle.tt_label_rows.specs.declared.heights.RowHeights.{RowHeights}
 use Rattle.tt_label_rows.specs.Heights.{row_heights}
 use Rattle.tt_line.specs.Layout.{Placement}
-use Rattle.tt_line.specs.Outcome.{placement_of}
 use Rattle.tt_picture.specs.declared.ink_box.InkBox.{InkBox}
 use Rattle.tt_picture.specs.Glyphs.{Glyph}
 use Rattle.tt_picture.specs.Pictures.{image}

@@ -1,5 +1,5 @@
 -- Laws of boxes: the size of the picture is the greatest, and no ink is cut.
-use Rattle.std.specs.Prelude.{◌≡◌, ℕ, suc, ◌+◌, ◌<◌, ◌≤◌, true, ◌⊎◌, List, Option, None, Some, Result, Ok}
+use Rattle.std.specs.Prelude.{◌≡◌, ℕ, ◌+◌, ◌<◌, ◌≤◌, true, ◌⊎◌, List, Option, None, Some, Ok}
 use Rattle.tt_box.specs.Boxes.{Boxed, Tried, boxed_from, is_inside, is_too_high, laid_if_fits, size_tried}
 use Rattle.tt_box.specs.declared.place.LabelBox.{LabelBox}
 use Rattle.tt_face.specs.Faces.{Face}

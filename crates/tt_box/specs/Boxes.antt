@@ -1,6 +1,6 @@
 -- No part of the standard: the picture of a label that fills a box, at the greatest size at which its text fits (profile). No
 -- word is broken, no ink lies outside of the box, and the rows stand in the middle.
-use Rattle.std.specs.Prelude.{◌≡◌, refl, ℕ, zero, suc, ◌+◌, ◌-◌, ◌*◌, Bool, true, false, not, ◌&&◌, nat_le, nat_lt, if◌then◌else◌, ℤ, pos, negsuc, int_le, int_lt, List, [], ◌∷◌, length, map, Option, None, Some, Result, Ok, Err}
+use Rattle.std.specs.Prelude.{◌≡◌, refl, ℕ, zero, suc, ◌+◌, ◌-◌, ◌*◌, Bool, true, false, not, ◌&&◌, nat_lt, if◌then◌else◌, pos, negsuc, int_le, int_lt, List, [], ◌∷◌, length, map, Option, None, Some, Result, Ok, Err}
 use Rattle.tt_box.specs.declared.place.LabelBox.{LabelBox}
 use Rattle.tt_core.specs.declared.fault.JobFault.TheVariants as fault
 use Rattle.tt_core.specs.Outcomes.{◌>>=◌}
@@ -14,9 +14,8 @@ use Rattle.tt_label_rows.specs.declared.heights.RowHeights.{RowHeights}
 use Rattle.tt_label_rows.specs.Heights.{row_heights}
 use Rattle.tt_label_rows.specs.Pictures.{box_picture, first_rise, is_low, rows_placed}
 use Rattle.tt_label_rows.specs.Rows.{breaks_word, text_rows}
-use Rattle.tt_line.specs.Labels.{line_step_of, widest}
+use Rattle.tt_line.specs.Labels.{widest}
 use Rattle.tt_line.specs.Layout.{Placement}
-use Rattle.tt_metrics.specs.Metrics.{Metrics}
 use Rattle.tt_picture.specs.declared.ink_box.InkBox.{InkBox}
 use Rattle.tt_picture.specs.Pictures.{Image, image}
 use Rattle.tt_picture.specs.Shapes.{crossings_in}

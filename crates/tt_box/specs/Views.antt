@@ -1,5 +1,5 @@
 -- No part of the standard: the definitions' views of rows in a box, of a tried size, and of a picture that fills a box.
-use Rattle.std.specs.Prelude.{◌≡◌, ◌≤◌, ℕ, All, List, Option, None, Some, Ok, Vec, length, map}
+use Rattle.std.specs.Prelude.{◌≡◌, ◌≤◌, All, List, Option, None, Some, Ok, Vec, length, map}
 use Rattle.std.specs.Global.{Global}
 use Rattle.tt_box.specs.Boxes.{Boxed, Stepped, Tried}
 use Rattle.tt_box.specs.declared.boxing.BoxLabel.{BoxLabel}

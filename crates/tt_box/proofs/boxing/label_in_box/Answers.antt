@@ -1,7 +1,6 @@
-use Rattle.std.proofs.Common.{◌≡◌, ◌∙◌, refl, ap, sym, ℕ, ◌+◌, ◌-◌, ◌≤◌, Ok, Some, None, arith}
+use Rattle.std.proofs.Common.{◌≡◌, refl, ◌≤◌, None, arith}
 use Rattle.std.proofs.lemmas.Result.{err_from_is_err_and}
 use Rattle.tt_box.proofs.Sizes.{box_empty, box_found, box_margin, box_stops, box_text, first_on, least_is_low, next_on, work_bounded}
-use Rattle.tt_box.specs.Boxes.{least_size}
 use Rattle.tt_box.specs.Views.{shown_of, step_view}
 use Rattle.tt_picture.specs.Pictures.{image_of}
 use Rattle.tt_strike.specs.Job.{job_for}

@@ -1,4 +1,4 @@
-use Rattle.std.proofs.Common.{◌≡◌, ◌∙◌, refl, ap, sym, Ok, Some}
+use Rattle.std.proofs.Common.{◌∙◌, refl, ap, sym, Ok}
 use Rattle.std.proofs.lemmas.Result.{err_from_is_err_and}
 use Rattle.tt_box.proofs.Sizes.{step_high, step_large, step_stops, step_tried}
 use Rattle.tt_box.specs.Views.{tried_view}

@@ -1,4 +1,3 @@
-use Rattle.std.proofs.Common.{◌≡◌, refl}
 use Rattle.std.proofs.lemmas.Result.{err_from_is_err_and}
 use Rattle.tt_box.proofs.Tries.{size_untested}
 use Rattle.tt_strike.specs.Job.{job_for}

@@ -1,4 +1,4 @@
-use Rattle.std.proofs.Common.{◌≡◌, ◌∙◌, refl, ◌-◌, ◌*◌, ◌≤◌, ℕ, List, Vec, Global, Some, ap, length, map, sym, false, true, arith, SFits, w32}
+use Rattle.std.proofs.Common.{◌≡◌, ◌∙◌, refl, ◌-◌, ◌≤◌, ℕ, Vec, Global, Some, ap, length, map, sym, false, true, arith, SFits, w32}
 use Rattle.std.proofs.lemmas.Int.{ints, to_z-of_z}
 use Rattle.std.proofs.lemmas.List.{length-map}
 use Rattle.tt_box.proofs.RowsFit.{low_fits, room_of}

@@ -1,4 +1,4 @@
-use Rattle.std.proofs.Common.{◌≡◌, ◌∙◌}
+use Rattle.std.proofs.Common.{◌∙◌}
 use Rattle.tt_box.proofs.Tries.{fitted_cost, made_cost}
 use Rattle.tt_box.proofs.trying.begun_cost.Goals as goal
 

@@ -1,8 +1,7 @@
-use Rattle.std.proofs.Common.{◌≡◌, ◌∙◌, refl, ap, sym, ℕ, Bool, Ok, Some, arith}
+use Rattle.std.proofs.Common.{◌≡◌, ◌∙◌, ap, sym, Some, arith}
 use Rattle.std.proofs.lemmas.List.{length-map}
-use Rattle.std.specs.Prelude.{All}
 use Rattle.tt_box.proofs.Tries.{alike_boxed, inside_shown, joint_sized, outside_not}
-use Rattle.tt_label.specs.Label.{joint, some_line_shows}
+use Rattle.tt_label.specs.Label.{joint}
 use Rattle.tt_label.specs.Views.{placements_of}
 use Rattle.tt_label.proofs.Larger.{first_frame}
 use Rattle.tt_label.proofs.Shown.{are_lines, placed_image}
