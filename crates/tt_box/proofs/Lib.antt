@@ -1,0 +1,6 @@
+pub mod Filled
+pub mod Greatest
+pub mod NoneCut
+pub mod RowsFit
+pub mod Sizes
+pub mod Tries

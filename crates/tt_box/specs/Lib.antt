@@ -1,0 +1,3 @@
+pub mod BoxLaws
+pub mod Boxes
+pub mod Views
