@@ -86,6 +86,7 @@ pub fn bdf_help(
     match fault.refusal {
         Refusal::Job(job) => file_job_help(alloc, job, hint, asked, folder),
         Refusal::Font(_)
+        | Refusal::Space(_)
         | Refusal::NotUtf8
         | Refusal::Missing(_)
         | Refusal::FontRead

@@ -23,7 +23,7 @@ use Rattle.tt_render_texts.specs.Reports.{told_of}
 use Rattle.tt_render_texts.specs.TextsMessages.{texts_line_of}
 use Rattle.tt_render_settings.specs.Settings.{job_by, setting_tested, strike_of}
 use Rattle.tt_render_texts.specs.Answers.{TextAnswer}
-use Rattle.tt_render_settings.specs.Texts.{TextRefusal, missing, not_utf8, refused, text_answer}
+use Rattle.tt_render_settings.specs.Texts.{TextRefusal, misfit, missing, not_utf8, refused, text_answer}
 use Rattle.tt_render_texts.specs.Views.{before_lines}
 use Rattle.tt_strike.specs.Job.{tested}
 use Rattle.tt_strike.specs.Refusals.{Refused, font, job, large}
@@ -33,6 +33,7 @@ use Rattle.tt_strike.specs.Strikes.{Strike}
 abbrev pub told : Refusal → Option TextRefusal
 told (reason.Font f) = Some (refused (font f))
 told (reason.Job j) = Some (refused (job j))
+told (reason.Space f) = Some (misfit f)
 told reason.NotUtf8 = Some not_utf8
 told (reason.Missing c) = Some (missing c)
 told why = None
@@ -42,6 +43,7 @@ abbrev pub refusal_by : TextRefusal → Refusal
 refusal_by (refused (font f)) = reason.Font f
 refusal_by (refused (job j)) = reason.Job j
 refusal_by (refused large) = reason.FontLarge
+refusal_by (misfit f) = reason.Space f
 refusal_by not_utf8 = reason.NotUtf8
 refusal_by (missing c) = reason.Missing c
 
@@ -52,6 +54,7 @@ line_fault number why = record { line = Some number; refusal = refusal_by why }
 -- a refusal of a line alone
 abbrev pub is_passed : Refusal → Bool
 is_passed (reason.Job j) = true
+is_passed (reason.Space f) = true
 is_passed reason.NotUtf8 = true
 is_passed (reason.Missing c) = true
 is_passed why = false

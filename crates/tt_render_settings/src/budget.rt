@@ -85,7 +85,9 @@ pub fn goes_on(keep_going: bool, why: Refusal) -> bool
     ensures { result ≡ goes_on keep_going why }
 {
     match why {
-        Refusal::Job(_) | Refusal::NotUtf8 | Refusal::Missing(_) => keep_going,
+        Refusal::Job(_) | Refusal::Space(_) | Refusal::NotUtf8 | Refusal::Missing(_) => {
+            keep_going
+        }
         Refusal::Font(_)
         | Refusal::FontRead
         | Refusal::FontLarge

@@ -1,0 +1,86 @@
+//! The space that a label is asked to have, and its tests.
+
+ghost use Rattle.std.specs.Prelude.{◌≡◌, ◌+◌, ◌*◌, ◌≤◌, IfOk};
+ghost use Rattle.tt_core.specs.Limits.{width_limit};
+ghost use Rattle.tt_core.specs.Outcomes.{Gives};
+ghost use Rattle.tt_render_settings.specs.Spaces.{HasMargin, given_space, is_wide, refused_space, space_asked, space_tested};
+
+use crate::label::Label;
+use crate::setting::test_setting;
+use tt_core::WIDTH_LIMIT;
+use tt_render_texts::SpaceFault;
+
+/// The space that a label is asked to have.
+#[derive(Clone, Copy, Debug, PartialEq, Eq)]
+pub enum Space {
+    /// As many columns and rows as its lines take.
+    Free,
+    /// So many columns. Longer lines are broken into rows.
+    Width(u32),
+}
+
+impl Space {
+    /// The space that an option asks for, if the option is there.
+    pub fn asked(width: Option<u32>) -> Space
+        ensures { result ≡ space_asked width }
+    {
+        match width {
+            None => Space::Free,
+            Some(width) => Space::Width(width),
+        }
+    }
+}
+
+/// A width of a label's picture that has room between the margins.
+#[derive(Clone, Copy)]
+pub struct GivenWidth {
+    pub width: u32,
+    pub margin: u32,
+    ghost room: { 2 * margin + 1 ≤ width },
+    ghost high: { width ≤ width_limit },
+}
+
+/// The space of a label, which passed its test.
+#[derive(Clone, Copy)]
+pub enum GivenSpace {
+    Free,
+    Width(GivenWidth),
+}
+
+/// Whether so many columns are more than both margins, and at most 16,384.
+fn is_wide(width: u32, margin: u32) -> bool
+    ensures { result ≡ is_wide width margin }
+{
+    2 * u64::from(margin) < u64::from(width) && width <= WIDTH_LIMIT
+}
+
+/// Tests the space of a label. Error: WidthRange, of a width that is not more than both margins, or above 16,384.
+pub fn test_space(asked: &Label) -> Result<GivenSpace, SpaceFault>
+    ensures exact { Gives (λ u. tt {0}) result (space_tested asked.now.space asked.now.setting.margin) }
+    ensures given { IfOk result (λ g. given_space g ≡ asked.now.space) }
+    ensures margin { IfOk result (HasMargin asked.now.setting.margin) }
+{
+    let margin = asked.setting.margin;
+    match asked.space {
+        Space::Free => Ok(GivenSpace::Free),
+        Space::Width(width) => {
+            if !is_wide(width, margin) {
+                return Err(SpaceFault::WidthRange);
+            }
+            Ok(GivenSpace::Width(GivenWidth { width, margin }))
+        }
+    }
+}
+
+/// Why the space of a label is refused, if its size and its margin are not refused before.
+pub fn refused_space(asked: &Label) -> Option<SpaceFault>
+    ensures { result ≡ refused_space asked.now.setting asked.now.space }
+{
+    if test_setting(&asked.setting).is_err() {
+        return None;
+    }
+    match test_space(asked) {
+        Ok(_) => None,
+        Err(fault) => Some(fault),
+    }
+}
