@@ -1,9 +1,10 @@
 //! The size of a machine's runs.
 
-ghost use Rattle.std.specs.Prelude.{◌≡◌, ◌<◌, ◌≤◌, ◌^◌, ◌*◌, IfOk, unsigned_abs};
+ghost use Rattle.std.specs.Prelude.{◌≡◌, ◌<◌, ◌≤◌, ◌^◌, ◌*◌, IfErr, IfOk, unsigned_abs};
 ghost use Rattle.tt_core.specs.Limits.{size_limit};
 ghost use Rattle.tt_core.specs.Scales.{IsScale};
 ghost use Rattle.tt_core.specs.Outcomes.{Gives};
+ghost use Rattle.tt_core.specs.declared.fault.Why.TheVariants as is;
 ghost use Rattle.tt_exec_state.specs.Size.{in_pixels};
 
 use tt_core::{Scale, Why};
@@ -30,6 +31,7 @@ impl Size {
     /// Font units as 26.6 pixels. Error: ValueRange outside 32 bits.
     pub(crate) fn in_pixels(self, units: i32) -> Result<i32, Why>
         ensures exact { Gives (λ v. v) result (in_pixels self.scale units) }
+        ensures fault { IfErr result (λ why. why ≡ is.ValueRange) }
     {
         i32::try_from(self.scale.scaled(units)).map_err(|_| Why::ValueRange)
     }

@@ -52,7 +52,7 @@ units_made face a =
     glyphs_tested s a (units_glyphs face a) >>= λ u.
     Ok s
 
--- some glyphs are fitted, and not drawn yet: these, with the table of their places, and so much work is left
+-- some glyphs are fitted, and not drawn yet: these, with the table of their places, and this much work remains
 pub record AreBegun (a : Job) (s : Fitter) (gs : List ℕ) (table : List ℕ) (fs : List FittedGlyph) (left : Option ℕ) : Type 0 where
   pub bounded : is_bounded a.fit ≡ true
   pub points : work_tested a.fit point_work_limit (points_in s gs) ≡ Ok tt

@@ -29,7 +29,7 @@ use tt_strike::{Laid, SizedFace, is_bounded, test_margin, test_text, tested_edge
 /// How far the glyphs of a text are made.
 #[derive(Drop)]
 pub enum Stage {
-    /// The glyphs are fitted, and so much work is left; only where work is bounded.
+    /// The glyphs are fitted, and this much work remains; only where work is bounded.
     Fitted(FittedGlyphs, Option<u64>),
     /// The glyphs are made; only where work is not bounded.
     Made(Glyphs),
@@ -152,7 +152,7 @@ pub fn begin_label(
 }
 
 /// The glyphs of a label, drawn. Those that may be and are small enough are cached. Errors, where work is bounded:
-/// WorkLarge of their chords, and then of their crossings by the work that is left; Memory.
+/// WorkLarge of their chords, and then of their crossings by the remaining work; Memory.
 pub fn finish_label(
     sized: &mut SizedFace,
     text: &str,

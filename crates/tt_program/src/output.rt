@@ -103,6 +103,7 @@ impl<'a, W: Write, R: Files + AllocGlobal> Sink for OutputFiles<'a, W, R> {
 
     ghost has_failed = { λ o. has_output_failed o.stream };
 
+    /// Writes to standard output. A method (for the prover): one type is the sink of texts and takes the pictures.
     fn write(&mut self, buf: &[u8]) -> Result<usize, IoFailed> {
         self.stream.write(buf)
     }

@@ -46,7 +46,7 @@ pub(crate) fn format_asked(png: bool, output: Option<&str>) -> PictureFormat
     }
 }
 
-/// What is known of the `%d` in the first bytes of a name.
+/// The state of a search for `%d` in the first bytes of a name.
 #[derive(Clone, Copy)]
 struct Marks {
     /// The last byte is `%`.

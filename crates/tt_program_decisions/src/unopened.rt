@@ -101,7 +101,7 @@ fn creating_hint(kind: ErrorKind) -> Option<FixedHint>
 }
 
 /// Tells a person, after the line about a picture whose place could not be made, why the file of this path cannot be
-/// created. Some kinds of errors have no words. Where memory runs out nothing is told.
+/// created. Some kinds of errors have no words. Where memory runs out nothing is printed.
 pub fn tell_unmade<E: Sink>(alloc: Global, path: &str, kind: ErrorKind, error: &mut E)
     ensures told { TellsHint (creating_hint kind) path.now (E.has_failed error.old) (errors_of E.written E.has_failed error.old error.new) }
 {

@@ -139,7 +139,7 @@ abbrev pub IsNotSent : (List ℕ → List ℕ) → ℕ → Option (List ℕ) →
 IsNotSent shown number before after bytes e =
     (f : NotPut) × (e ≡ record { line = Some number; refusal = refusal_of_put f }) × IsPart shown before after bytes f
 
--- what is told of a refused line
+-- the report of a refused line
 abbrev pub label_told_of : Label → ℕ → TextRefusal → List ℕ
 label_told_of l number why = label_lines_of l false (line_fault number why) None
 

@@ -40,7 +40,7 @@ stream = record { shown = λ number bytes. bytes; creates = false }
 abbrev pub places : (Option ℕ → List ℕ → List ℕ) → Outlet
 places shown = record { shown = shown; creates = true }
 
--- the drawing of each line: where its output goes, its answer, and what is told of a refused line where the lines behind
+-- the drawing of each line: where its output goes, its answer, and the report of a refused line where the lines behind
 -- such a line are drawn
 pub record Drawing : Type 0 where
   pub to : Outlet
@@ -56,7 +56,7 @@ abbrev pub cost_drawn : Result TextAnswer TextRefusal → ℕ
 cost_drawn (Ok a) = a.cost
 cost_drawn (Err why) = 0
 
--- the answer of a line behind so many others, which took this much. No line is drawn where they took more than the budget
+-- the answer of a line behind others, which took this much. No line is drawn where they took more than the budget
 abbrev pub tried : Drawing → ℕ → ℕ → List ℕ → Result TextAnswer TextRefusal
 tried d before used line =
     if nat_lt (lines_budget before) used && nat_le (length line) line_limit
@@ -68,12 +68,12 @@ is_of_line (refused (font f)) = false
 is_of_line (refused large) = false
 is_of_line why = true
 
--- what is told of a refused line, where the lines behind it are drawn
+-- the report of a refused line, where the lines behind it are drawn
 abbrev pub passing : Option (ℕ → TextRefusal → List ℕ) → ℕ → TextRefusal → Option (List ℕ)
 passing None number why = None
 passing (Some tell) number why = if is_of_line why then Some (tell number why) else None
 
--- the drawing of lines: their outputs as they stand; the reports, and what is told of refused lines; what the lines took;
+-- the drawing of lines: their outputs as they stand; the reports, those of refused lines among them; what the lines took;
 -- the number of the first line that was refused and passed over, with its refusal; and the same of the line that stopped
 -- the drawing
 pub record LinesDrawn : Type 0 where
@@ -83,7 +83,7 @@ pub record LinesDrawn : Type 0 where
   pub first : Option (ℕ × TextRefusal)
   pub stop : Option (ℕ × TextRefusal)
 
--- a refused line, by what is told of it, followed by the drawing of the later lines
+-- a refused line, by its report, followed by the drawing of the later lines
 abbrev pub passed_with : ℕ → ℕ → TextRefusal → Option (List ℕ) → LinesDrawn → LinesDrawn
 passed_with number used why (Some words) after = record after { told = words ++ after.told; first = Some (number, why) }
 passed_with number used why None after =
@@ -97,7 +97,7 @@ drawn_with d number used (Ok a) after = record after {
 }
 drawn_with d number used (Err why) after = passed_with number used why (passing d.tells number why) after
 
--- the drawing of lines behind so many others, which took this much
+-- the drawing of lines behind others, which took this much
 abbrev pub drawn_from : Drawing → ℕ → ℕ → List (List ℕ) → LinesDrawn
 drawn_from d before used [] = record { bytes = []; told = []; used = used; first = None; stop = None }
 drawn_from d before used (line ∷ lines) =

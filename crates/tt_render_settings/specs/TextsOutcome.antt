@@ -63,11 +63,11 @@ is_passed why = false
 abbrev pub goes_on : Bool → Refusal → Bool
 goes_on keeps why = keeps && is_passed why
 
--- a refused line stops the call, or memory ran out before it was told
+-- a refused line stops the call, or memory ran out before the report of the line
 abbrev pub StopsPassing : Bool → TextsFault → TextsFault → Type 0
 StopsPassing keeps fault e = ((goes_on keeps fault.refusal ≡ false) × (e ≡ fault)) ⊎ (e ≡ before_lines reason.Memory)
 
--- what is told of a refused line behind which others are drawn
+-- the report of a refused line, where later lines are drawn
 abbrev pub telling : Bool → (ℕ → TextRefusal → List ℕ) → Option (ℕ → TextRefusal → List ℕ)
 telling keeps tell = if keeps then Some tell else None
 
@@ -108,15 +108,15 @@ abbrev pub HasLine : List (List ℕ) → Type 0
 HasLine [] = ⊥
 HasLine (line ∷ rest) = length line ≤ line_limit
 
--- why the next line is not drawn: it is too long; or the lines before it, so many that took `used`, took more than the
--- budget
+-- why the next line is not drawn: it is too long; or the lines before it took `used`, and this is more than the budget
+-- of their number
 abbrev pub IsNotBegun : ℕ → ℕ → JobFault → Option (List ℕ) → Type 0
 IsNotBegun drawn used why before =
     ((why ≡ job_fault.TextLong) × IfSome before BeginsLong)
     ⊎ ((why ≡ job_fault.WorkLarge) × (lines_budget drawn < used)
     × IfSome before (λ text. HasLine (lines_of text)))
 
--- the remaining text after finding the next line, behind so many lines that took `used` of the budget. Where the lines
+-- the remaining text after finding the next line, behind drawn lines that took `used` of the budget. Where the lines
 -- behind a refused one are drawn, the text loses that line too
 abbrev pub FindsLine : LineReader → Bool → ℕ → ℕ → Result Found Refusal → Option (List ℕ) → Option (List ℕ) → Type 0
 FindsLine r keeps drawn used (Ok (found.Line place)) before after =
@@ -140,8 +140,8 @@ abbrev pub FailsByStop : Bool → Result Found Refusal → Type 0
 FailsByStop failed (Err reason.Read) = failed ≡ true
 FailsByStop failed r = failed ≡ false
 
--- none of these lines, from line 1, stops the drawing; their outputs stand there, and then these bytes; what is told of
--- them was printed
+-- none of these lines, from line 1, stops the drawing; their outputs stand there, and then these bytes; their
+-- reports were printed
 abbrev pub SendsLines : Drawing → Option (List ℕ) → Option (List ℕ) → Errors → List (List ℕ) → List ℕ → Type 0
 SendsLines d out_before out_after e lines more =
     ((drawn_from d 0 0 lines).stop ≡ None)
@@ -222,7 +222,7 @@ LinesGive first d (Ok v) t e =
     × PassesAsAsked d (first v) × ReadsToEnd t × WriterServes t
 LinesGive first d (Err fault) t e = LinesFail d fault.refusal fault.line t e
 
--- the drawing of lines to a stream, with what is told of a refused line where such a line stops no other
+-- the drawing of lines to a stream, with the report of a refused line where such a line stops no other
 abbrev pub line_told : ℕ → TextRefusal → List ℕ
 line_told number why = texts_line_of (line_fault number why) ++ codes "\n"
 

@@ -17,7 +17,7 @@ pub fn lines_budget(before: u64) -> u128
     10_000_000 + 4_000_000 * u128::from(before)
 }
 
-/// What follows in a text.
+/// The next part of a text.
 #[derive(Clone, Copy)]
 pub enum Found {
     /// A line.
@@ -52,7 +52,7 @@ fn pass_long<R: Source>(
     Ok(Found::Refused(JobFault::TextLong))
 }
 
-/// What follows in a text, behind so many lines that took `used` of the budget. With `keep_going` a line that is not drawn
+/// The next part of a text, behind drawn lines that took `used` of the budget. With `keep_going` a line that is not drawn
 /// is passed over. Errors: Read; Many, where 2^64 - 1 reads found no end of a line that is too long.
 pub fn next_line<R: Source>(
     reader: &mut LineReader,

@@ -22,7 +22,7 @@ pub trait Pictures {
     // The bytes that stand there so far, if they are known.
     ghost written: { Self → Option (List ℕ) };
 
-    // What stands there for a picture, by its line's number and by its bytes. A stream has the bytes alone.
+    // The bytes there of a picture, by its line's number and by its bytes. A stream has the bytes alone.
     ghost shown: { Option ℕ → List ℕ → List ℕ };
 
     ghost has_failed: { Self → Bool };

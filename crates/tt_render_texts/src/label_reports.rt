@@ -1,4 +1,4 @@
-//! What is told of a label that was drawn.
+//! The report of a label that was drawn.
 
 ghost use Rattle.std.specs.Prelude.{◌≡◌, ◌++◌, string_bytes, IfOk, OnOk};
 ghost use Rattle.tt_render_texts.specs.Reports.{columns_told, count_line, count_told, cut_line, cut_sides, cut_told, fit_name, font_told, is_first, label_report_of, sign_line, sign_told, sign_words, signs_told, told_view};
