@@ -350,8 +350,8 @@ pub fn draw_labels<F: Source, R: Source, P: Pictures, E: Sink>(
     ensures defects { ClaimsIfFree asked.now.space (LinesTellDefectsOf composed_glyphs (F.left font.old) asked.now.setting (R.left lines.old) result.answer) }
     ensures hint { IfSome (F.left font.old) (HintsBy asked.now result) }
 {
-    if let Some(fault) = refused_space(asked) {
-        return unhinted(Refusal::Space(fault));
+    if let Some(why) = refused_space(asked) {
+        return unhinted(Refusal::Space(why));
     }
     if let Err(fault) = test_setting(&asked.setting) {
         return unhinted(Refusal::Job(fault));
