@@ -1,6 +1,6 @@
 -- No part of the standard: the space that a label is asked to have, and its test (profile). The test stands behind those
 -- of the size and of the margin, and before that of the text.
-use Rattle.std.specs.Prelude.{◌≡◌, refl, ℕ, ◌*◌, Bool, ◌&&◌, nat_le, nat_lt, if◌then◌else◌, Option, Some, None, Result, Ok, Err, ⊤}
+use Rattle.std.specs.Prelude.{◌≡◌, refl, ℕ, ◌*◌, ◌||◌, nat_le, nat_lt, if◌then◌else◌, Option, Some, None, Result, Ok, Err, ⊤}
 use Rattle.tt_core.specs.declared.collection.Reading.TheVariants as reading
 use Rattle.tt_core.specs.declared.fault.JobFault.{JobFault}
 use Rattle.tt_core.specs.Limits.{width_limit}
@@ -21,14 +21,15 @@ abbrev pub space_asked : Option ℕ → Space
 space_asked None = space.Free
 space_asked (Some width) = space.Width width
 
--- so many columns are more than both margins, and not too many
-abbrev pub is_wide : ℕ → ℕ → Bool
-is_wide width margin = nat_lt (2 * margin) width && nat_le width width_limit
+-- the test of a width, by the margin
+abbrev pub width_tested : ℕ → ℕ → Result (Unit {0}) SpaceFault
+width_tested width margin =
+    if nat_le width (2 * margin) || nat_lt width_limit width then Err fault.WidthRange else Ok tt
 
 -- the test of a space, by the margin
 abbrev pub space_tested : Space → ℕ → Result (Unit {0}) SpaceFault
 space_tested space.Free margin = Ok tt
-space_tested (space.Width width) margin = if is_wide width margin then Ok tt else Err fault.WidthRange
+space_tested (space.Width width) margin = width_tested width margin
 
 -- the space that passed its test, and the margin by which it did
 abbrev pub given_space : GivenSpace → Space

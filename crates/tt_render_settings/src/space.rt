@@ -3,7 +3,7 @@
 ghost use Rattle.std.specs.Prelude.{◌≡◌, ◌+◌, ◌*◌, ◌≤◌, IfOk};
 ghost use Rattle.tt_core.specs.Limits.{width_limit};
 ghost use Rattle.tt_core.specs.Outcomes.{Gives};
-ghost use Rattle.tt_render_settings.specs.Spaces.{HasMargin, given_space, is_wide, refused_space, space_asked, space_tested};
+ghost use Rattle.tt_render_settings.specs.Spaces.{HasMargin, given_space, refused_space, space_asked, space_tested, width_tested};
 
 use crate::label::Label;
 use crate::setting::test_setting;
@@ -47,11 +47,16 @@ pub enum GivenSpace {
     Width(GivenWidth),
 }
 
-/// Whether so many columns are more than both margins, and at most 16,384.
-fn is_wide(width: u32, margin: u32) -> bool
-    ensures { result ≡ is_wide width margin }
+/// So many columns, if they are more than both margins and at most 16,384. Error: WidthRange.
+fn given_width(width: u32, margin: u32) -> Result<GivenWidth, SpaceFault>
+    ensures exact { Gives (λ g. tt {0}) result (width_tested width margin) }
+    ensures width { IfOk result (λ g. g.width ≡ width) }
+    ensures margin { IfOk result (λ g. g.margin ≡ margin) }
 {
-    2 * u64::from(margin) < u64::from(width) && width <= WIDTH_LIMIT
+    if u64::from(width) <= 2 * u64::from(margin) || width > WIDTH_LIMIT {
+        return Err(SpaceFault::WidthRange);
+    }
+    Ok(GivenWidth { width, margin })
 }
 
 /// Tests the space of a label. Error: WidthRange, of a width that is not more than both margins, or above 16,384.
@@ -64,10 +69,8 @@ pub fn test_space(asked: &Label) -> Result<GivenSpace, SpaceFault>
     match asked.space {
         Space::Free => Ok(GivenSpace::Free),
         Space::Width(width) => {
-            if !is_wide(width, margin) {
-                return Err(SpaceFault::WidthRange);
-            }
-            Ok(GivenSpace::Width(GivenWidth { width, margin }))
+            let given = given_width(width, margin)?;
+            Ok(GivenSpace::Width(given))
         }
     }
 }
