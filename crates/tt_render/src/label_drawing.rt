@@ -26,8 +26,8 @@ use std::str;
 use tt_advice::{Hint, advice};
 use tt_core::{Sink, Source};
 use tt_render_settings::{
-    Found, Label, LabelsDrawn, earlier, goes_on, label_lines, next_line, refused_space,
-    test_setting,
+    Found, Label, LabelsDrawn, earlier, goes_on, label_lines, next_line, refused_cost,
+    refused_space, test_setting,
 };
 use tt_render_streams::{Pictures, read_font};
 use tt_render_texts::{
@@ -273,6 +273,7 @@ fn draw_labels_by<R: Source, P: Pictures, E: Sink>(
             Ok(Found::Refused(why)) => {
                 let fault = texts_fault(Some(number), Refusal::Job(why));
                 first = pass(alloc, asked, fault, first, error)?;
+                used += refused_cost(fault.refusal);
                 continue;
             }
             Err(why) => return Err(texts_fault(Some(number), why)),
@@ -283,6 +284,7 @@ fn draw_labels_by<R: Source, P: Pictures, E: Sink>(
             Err(refused) => {
                 let fault = texts_fault(Some(number), refused.refusal);
                 first = pass(alloc, asked, fault, first, error)?;
+                used += refused_cost(fault.refusal);
                 continue;
             }
         };

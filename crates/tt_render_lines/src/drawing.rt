@@ -26,7 +26,7 @@ use crate::text_answers::{ReadyText, answer_text};
 use std::alloc::{AllocError, Global};
 use std::str;
 use tt_core::{Sink, Source};
-use tt_render_settings::{Found, Setting, earlier, goes_on, next_line, test_setting};
+use tt_render_settings::{Found, Setting, earlier, goes_on, next_line, refused_cost, test_setting};
 use tt_render_streams::read_font;
 use tt_render_texts::{LineReader, Refusal, TextsFault, print_text, texts_fault, texts_line};
 use tt_strike::{Face, Strike, test_job};
@@ -217,6 +217,7 @@ fn draw_lines_by<R: Source, W: Sink, E: Sink>(
             Ok(Found::Refused(why)) => {
                 let fault = texts_fault(Some(number), Refusal::Job(why));
                 first = pass(alloc, setting.keep_going, fault, first, error)?;
+                used += refused_cost(fault.refusal);
                 continue;
             }
             Err(why) => return Err(texts_fault(Some(number), why)),
@@ -227,6 +228,7 @@ fn draw_lines_by<R: Source, W: Sink, E: Sink>(
             Err(refused) => {
                 let fault = texts_fault(Some(number), refused.refusal);
                 first = pass(alloc, setting.keep_going, fault, first, error)?;
+                used += refused_cost(fault.refusal);
                 continue;
             }
         };

@@ -14,7 +14,7 @@ use Rattle.tt_render_settings.specs.declared.budget.Found.{Found}
 use Rattle.tt_render_settings.specs.declared.budget.Found.TheVariants as found
 use Rattle.tt_render_texts.specs.declared.lines.LineReader.{LineReader}
 use Rattle.tt_render_texts.specs.LineReading.{BeginsLong, LosesFirst, LosesLine, line_at}
-use Rattle.tt_render_settings.specs.Lines.{Drawing, Outlet, drawn_from, line_drawn, lines_budget, lines_limit, stream, text_drawn, tried}
+use Rattle.tt_render_settings.specs.Lines.{Drawing, Outlet, cost_refused, drawn_from, line_drawn, lines_budget, lines_limit, stream, text_drawn, tried}
 use Rattle.tt_render_texts.specs.Lines.{line_limit, lines_of}
 use Rattle.tt_render_texts.specs.streams.Traffic.{Traffic, SendsAll, ReadsNothing, ReadsToEnd, WritesNothing, WriterServes, WriterFails}
 use Rattle.tt_render_texts.specs.Printing.{Errors, Prints, PrintsNothing}
@@ -37,6 +37,14 @@ told (reason.Space f) = Some (misfit f)
 told reason.NotUtf8 = Some not_utf8
 told (reason.Missing c) = Some (missing c)
 told why = None
+
+-- what a line with this refusal takes of the budget
+abbrev pub cost_told : Option TextRefusal → ℕ
+cost_told None = 0
+cost_told (Some why) = cost_refused why
+
+abbrev pub refused_cost : Refusal → ℕ
+refused_cost why = cost_told (told why)
 
 -- the refusal of a call, for that of a text
 abbrev pub refusal_by : TextRefusal → Refusal

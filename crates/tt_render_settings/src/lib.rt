@@ -17,7 +17,7 @@ mod missing;
 mod setting;
 mod space;
 
-pub use budget::{Found, earlier, goes_on, lines_budget, next_line};
+pub use budget::{Found, earlier, goes_on, lines_budget, next_line, refused_cost};
 pub use help::{label_help, label_lines};
 pub use label::{Label, Labelled, LabelsDrawn};
 pub use missing::none_missing;
