@@ -7,8 +7,8 @@ use Rattle.tt_core.specs.Limits.{width_limit}
 use Rattle.tt_face.specs.Rules.{plain_opening}
 use Rattle.tt_fit.specs.declared.programs.Fit.TheVariants as fit
 use Rattle.tt_render_settings.specs.declared.setting.Setting.{Setting}
-use Rattle.tt_render_settings.specs.declared.space.GivenSpace.{GivenSpace}
-use Rattle.tt_render_settings.specs.declared.space.GivenSpace.TheVariants as given
+use Rattle.tt_render_settings.specs.declared.given.GivenSpace.{GivenSpace}
+use Rattle.tt_render_settings.specs.declared.given.GivenSpace.TheVariants as given
 use Rattle.tt_render_settings.specs.declared.space.Space.{Space}
 use Rattle.tt_render_settings.specs.declared.space.Space.TheVariants as space
 use Rattle.tt_render_settings.specs.Settings.{plain_setting, setting_tested}

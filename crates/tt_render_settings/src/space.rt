@@ -1,10 +1,10 @@
 //! The space that a label is asked to have, and its tests.
 
-ghost use Rattle.std.specs.Prelude.{◌≡◌, ◌+◌, ◌*◌, ◌≤◌, IfOk};
-ghost use Rattle.tt_core.specs.Limits.{width_limit};
+ghost use Rattle.std.specs.Prelude.{◌≡◌, IfOk};
 ghost use Rattle.tt_core.specs.Outcomes.{Gives};
 ghost use Rattle.tt_render_settings.specs.Spaces.{HasMargin, given_space, refused_space, space_asked, space_tested, width_tested};
 
+use crate::given::{GivenSpace, GivenWidth};
 use crate::label::Label;
 use crate::setting::test_setting;
 use tt_core::WIDTH_LIMIT;
@@ -29,22 +29,6 @@ impl Space {
             Some(width) => Space::Width(width),
         }
     }
-}
-
-/// A width of a label's picture that has room between the margins.
-#[derive(Clone, Copy)]
-pub struct GivenWidth {
-    pub width: u32,
-    pub margin: u32,
-    ghost room: { 2 * margin + 1 ≤ width },
-    ghost high: { width ≤ width_limit },
-}
-
-/// The space of a label, which passed its test.
-#[derive(Clone, Copy)]
-pub enum GivenSpace {
-    Free,
-    Width(GivenWidth),
 }
 
 /// So many columns, if they are more than both margins and at most 16,384. Error: WidthRange.
