@@ -271,9 +271,10 @@ fn draw_labels_by<R: Source, P: Pictures, E: Sink>(
             Ok(Found::Line(place)) => place,
             Ok(Found::End) => return Ok(first),
             Ok(Found::Refused(why)) => {
-                let fault = texts_fault(Some(number), Refusal::Job(why));
+                let why = Refusal::Job(why);
+                let fault = texts_fault(Some(number), why);
                 first = pass(alloc, asked, fault, first, error)?;
-                used += refused_cost(fault.refusal);
+                used += refused_cost(why);
                 continue;
             }
             Err(why) => return Err(texts_fault(Some(number), why)),
@@ -282,9 +283,10 @@ fn draw_labels_by<R: Source, P: Pictures, E: Sink>(
         let ready = match draw_line(alloc, strike, notes, asked, number, line) {
             Ok(ready) => ready,
             Err(refused) => {
-                let fault = texts_fault(Some(number), refused.refusal);
+                let why = refused.refusal;
+                let fault = texts_fault(Some(number), why);
                 first = pass(alloc, asked, fault, first, error)?;
-                used += refused_cost(fault.refusal);
+                used += refused_cost(why);
                 continue;
             }
         };

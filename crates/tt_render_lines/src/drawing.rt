@@ -215,9 +215,10 @@ fn draw_lines_by<R: Source, W: Sink, E: Sink>(
                 });
             }
             Ok(Found::Refused(why)) => {
-                let fault = texts_fault(Some(number), Refusal::Job(why));
+                let why = Refusal::Job(why);
+                let fault = texts_fault(Some(number), why);
                 first = pass(alloc, setting.keep_going, fault, first, error)?;
-                used += refused_cost(fault.refusal);
+                used += refused_cost(why);
                 continue;
             }
             Err(why) => return Err(texts_fault(Some(number), why)),
@@ -226,9 +227,10 @@ fn draw_lines_by<R: Source, W: Sink, E: Sink>(
         let ready = match draw_line(alloc, strike, file, setting, number, line) {
             Ok(ready) => ready,
             Err(refused) => {
-                let fault = texts_fault(Some(number), refused.refusal);
+                let why = refused.refusal;
+                let fault = texts_fault(Some(number), why);
                 first = pass(alloc, setting.keep_going, fault, first, error)?;
-                used += refused_cost(fault.refusal);
+                used += refused_cost(why);
                 continue;
             }
         };
