@@ -28,7 +28,7 @@ use Rattle.tt_render_settings.specs.declared.setting.Setting.{Setting}
 use Rattle.tt_render_texts.specs.declared.label_reports.Signs.{Signs}
 use Rattle.tt_render_settings.specs.LinesDefects.{IsTextDefect}
 use Rattle.tt_render_texts.specs.Printing.{Errors}
-use Rattle.tt_render_texts.specs.Reports.{label_report_of}
+use Rattle.tt_render_texts.specs.Reports.{label_report_of, nothing_cut}
 use Rattle.tt_render_settings.specs.Settings.{job_by, plain_setting}
 use Rattle.tt_render_texts.specs.Answers.{LabelTold, TextAnswer}
 use Rattle.tt_render_settings.specs.Texts.{TextRefusal, as_text}
@@ -75,7 +75,7 @@ no_signs = record { control = None; right_to_left = None; shaped = None; joining
 
 -- what is reported of a file beside its unfitted glyphs and its characters without a glyph
 abbrev pub told_by : Fit → List ℕ → LabelTold
-told_by how notes = record { fit = how; signs = no_signs; font = notes }
+told_by how notes = record { fit = how; cut = nothing_cut; signs = no_signs; font = notes }
 
 -- the bytes of a file
 abbrev pub file_text : FontFile → Face → List ℕ → Bitmaps → List ℕ

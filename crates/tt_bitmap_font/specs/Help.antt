@@ -9,6 +9,7 @@ use Rattle.tt_core.specs.declared.fault.JobFault.{JobFault}
 use Rattle.tt_core.specs.declared.fault.JobFault.TheVariants as job
 use Rattle.tt_line.specs.declared.align.Align.TheVariants as align
 use Rattle.tt_render_settings.specs.declared.label.Label.{Label}
+use Rattle.tt_render_settings.specs.declared.space.Space.TheVariants as space
 use Rattle.tt_render_texts.specs.declared.refusal.Refusal.{Refusal}
 use Rattle.tt_render_texts.specs.declared.refusal.Refusal.TheVariants as reason
 use Rattle.tt_render_texts.specs.declared.refusal.TextsFault.{TextsFault}
@@ -27,6 +28,7 @@ abbrev pub label_of : FontFile → Label
 label_of a = record {
   setting = setting_of a;
   align = align.Left;
+  space = space.Free;
   path = a.path;
   face_given = a.face_given;
   format = format.Pbm;

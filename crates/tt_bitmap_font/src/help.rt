@@ -7,7 +7,7 @@ use crate::font_file::FontFile;
 use std::alloc::{AllocError, Global};
 use tt_advice::{Hint, hint_line};
 use tt_core::JobFault;
-use tt_render_settings::{Align, Label, label_help};
+use tt_render_settings::{Align, Label, Space, label_help};
 use tt_render_texts::{PictureFormat, Refusal, TextsFault};
 
 const LARGE: &str =
@@ -30,6 +30,7 @@ fn plain_help(
     let label = Label {
         setting: asked.setting(),
         align: Align::Left,
+        space: Space::Free,
         path: asked.path,
         face_given: asked.face_given,
         format: PictureFormat::Pbm,
@@ -86,6 +87,7 @@ pub fn bdf_help(
     match fault.refusal {
         Refusal::Job(job) => file_job_help(alloc, job, hint, asked, folder),
         Refusal::Font(_)
+        | Refusal::Space(_)
         | Refusal::NotUtf8
         | Refusal::Missing(_)
         | Refusal::FontRead

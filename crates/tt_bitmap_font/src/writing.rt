@@ -43,7 +43,8 @@ fn hint_for(refusal: Refusal, file: &[u8], face: u32) -> Option<Hint>
     match refusal {
         Refusal::Font(fault) => Some(advice(fault, file, face)),
         Refusal::Job(job) => characters_hint(job),
-        Refusal::NotUtf8
+        Refusal::Space(_)
+        | Refusal::NotUtf8
         | Refusal::Missing(_)
         | Refusal::FontRead
         | Refusal::FontLarge

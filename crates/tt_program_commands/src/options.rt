@@ -52,6 +52,14 @@ pub(crate) const MARGIN: Argument = Argument {
     ..PLAIN
 };
 
+pub(crate) const WIDTH: Argument = Argument {
+    name: "width",
+    takes: Takes::Number,
+    values: &["N"],
+    help: "Break longer lines, and make the picture N columns wide",
+    ..PLAIN
+};
+
 pub(crate) const ALIGN: Argument = Argument {
     name: "align",
     takes: Takes::OneOf(ALIGNS),

@@ -3,7 +3,7 @@
 use crate::arguments::Argument;
 use crate::options::{
     ALIGN, FACE, FIT, FIT_BEST, FONT, GROW, HEIGHT, KEEP_GOING, KERN, LINES, MARGIN, MISSING,
-    MISSING_TOLD, NO_INK, OUTPUT, PNG, RANGE, SIZE, TEXT, TEXT_OR_LINES,
+    MISSING_TOLD, NO_INK, OUTPUT, PNG, RANGE, SIZE, TEXT, TEXT_OR_LINES, WIDTH,
 };
 
 /// A subcommand.
@@ -50,6 +50,7 @@ const LABEL: Subcommand = Subcommand {
             ..MARGIN
         },
         ALIGN,
+        WIDTH,
         FIT_BEST,
         FACE,
         MISSING_TOLD,

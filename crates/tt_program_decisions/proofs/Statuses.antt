@@ -24,6 +24,7 @@ refusal_status_within : (why : Refusal) → refusal_status_of why ≤ 5
 refusal_status_within (reason.Font f) = omega arith
 refusal_status_within (reason.Job j) = omega arith
 refusal_status_within reason.NotUtf8 = omega arith
+refusal_status_within (reason.Space wrong) = omega arith
 refusal_status_within (reason.Missing c) = omega arith
 refusal_status_within reason.FontRead = omega arith
 refusal_status_within reason.FontLarge = omega arith

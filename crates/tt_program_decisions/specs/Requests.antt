@@ -20,6 +20,9 @@ use Rattle.tt_line.specs.declared.align.Align.TheVariants as align
 use Rattle.tt_line.specs.Layout.{text_glyphs}
 use Rattle.tt_render.specs.Labels.{FontLabelGives, FontLabelsGive, HintsBy, composed_glyphs}
 use Rattle.tt_render_settings.specs.declared.setting.Setting.{Setting}
+use Rattle.tt_render_settings.specs.declared.space.Space.{Space}
+use Rattle.tt_render_settings.specs.Spaces.{space_asked}
+use Rattle.tt_render.specs.LabelSpaces.{ClaimsIfFree}
 use Rattle.tt_render_lines.specs.LayoutTexts.{FontLayoutGives, IsLayoutDefect}
 use Rattle.tt_render_settings.specs.LinesDefects.{IsTextDefect, LinesTellDefectsOf}
 use Rattle.tt_render_run.specs.MapLines.{map_wanted}
@@ -97,12 +100,13 @@ with_rules rules s = None
 
 -- the options of `label`, where all names are known
 abbrev pub label_named
-    : ℕ → ℕ → Option Align → Option Fit → Option Missing → Option ℕ → Option LineRules → Bool → PictureFormat
+    : ℕ → ℕ → Option Align → Space → Option Fit → Option Missing → Option ℕ → Option LineRules → Bool → PictureFormat
     → Option LabelOptions
-label_named n m (Some a) (Some f) (Some w) face (Some rules) keeps form = Some (record {
+label_named n m (Some a) s (Some f) (Some w) face (Some rules) keeps form = Some (record {
   size = n;
   margin = m;
   align = a;
+  space = s;
   fit = f;
   missing = w;
   face = face;
@@ -110,16 +114,16 @@ label_named n m (Some a) (Some f) (Some w) face (Some rules) keeps form = Some (
   keep_going = keeps;
   format = form;
 })
-label_named n m a f w face rules keeps form = None
+label_named n m a s f w face rules keeps form = None
 
--- `--size SIZE --margin MARGIN --align ALIGN --fit FIT --missing MISSING`, `--face FACE`, and the rules of lines, which may
--- be absent; whether there is `--keep-going`, and the format of pictures
+-- `--size SIZE --margin MARGIN --align ALIGN`, the asked space, `--fit FIT --missing MISSING`, `--face FACE`, and the rules
+-- of lines; options may be absent; whether there is `--keep-going`, and the format of pictures
 abbrev pub label_options_asked
-    : Option ℕ → Option ℕ → Option (List ℕ) → Option (List ℕ) → Option (List ℕ) → Option ℕ → Option LineRules → Bool
-    → PictureFormat → Option LabelOptions
-label_options_asked (Some n) (Some m) (Some side) (Some how) (Some what) face rules keeps form =
-    label_named n m (align_named side) (fit_named how) (missing_named what) face rules keeps form
-label_options_asked n m side how what face rules keeps form = None
+    : Option ℕ → Option ℕ → Option (List ℕ) → Space → Option (List ℕ) → Option (List ℕ) → Option ℕ → Option LineRules
+    → Bool → PictureFormat → Option LabelOptions
+label_options_asked (Some n) (Some m) (Some side) s (Some how) (Some what) face rules keeps form =
+    label_named n m (align_named side) s (fit_named how) (missing_named what) face rules keeps form
+label_options_asked n m side s how what face rules keeps form = None
 
 -- The requests, each with its font: the lines that map a text; the lines of the file's faces; the product of a text with
 -- a setting; the products of the lines of standard input; the measure of a text without ink; the label of a text; the
@@ -248,11 +252,11 @@ abbrev pub AsksLabelOptions
     : (List ℕ → Option (List ℕ)) → (List ℕ → Option ℕ → Type 0) → (List ℕ → Bool → Type 0) → Option LabelOptions
     → Type 0
 AsksLabelOptions text IsNumber IsFlag answer =
-    (size margin face : Option ℕ) × (rules : Option LineRules) × (keeps png : Bool) × IsNumber (codes "size") size
-    × IsNumber (codes "margin") margin × IsNumber (codes "face") face × AsksRules text IsFlag rules
-    × IsFlag (codes "keep-going") keeps × IsFlag (codes "png") png
-    × (answer ≡ label_options_asked size margin (text (codes "align")) (text (codes "fit")) (text (codes "missing")) face rules
-    keeps (format_asked png (text (codes "output"))))
+    (size margin width face : Option ℕ) × (rules : Option LineRules) × (keeps png : Bool) × IsNumber (codes "size") size
+    × IsNumber (codes "margin") margin × IsNumber (codes "width") width × IsNumber (codes "face") face
+    × AsksRules text IsFlag rules × IsFlag (codes "keep-going") keeps × IsFlag (codes "png") png
+    × (answer ≡ label_options_asked size margin (text (codes "align")) (space_asked width) (text (codes "fit"))
+    (text (codes "missing")) face rules keeps (format_asked png (text (codes "output"))))
 
 -- the request of `label` by its arguments
 abbrev pub AsksLabel
@@ -287,6 +291,7 @@ label_setting o = record {
 pub record IsLabelFor (font : List ℕ) (o : LabelOptions) (l : DrawnLabel) : Type 0 where
   pub setting : l.setting ≡ label_setting o
   pub align : l.align ≡ o.align
+  pub space : l.space ≡ o.space
   pub path : l.path.now ≡ font
   pub given : l.face_given ≡ is_some o.face
   pub format : l.format ≡ o.format
@@ -334,12 +339,12 @@ Performs (Layout font text setting) folder closed t lines p e status =
 Performs (Label font text options output) folder closed t lines p e status =
     (l : DrawnLabel) × IsLabelFor font.now options l
     × DoesLabel (λ drawn told. FontLabelGives (places p.shown) l text.now drawn.answer p.font told
-    × TextTellsDefectsOf p.font.left_before (IsTextDefect composed_glyphs l.setting text.now) drawn.answer
+    × ClaimsIfFree l.space (TextTellsDefectsOf p.font.left_before (IsTextDefect composed_glyphs l.setting text.now) drawn.answer)
     × IfSome p.font.left_before (HintsBy l drawn)) l folder closed e status
 Performs (Labels font options output) folder closed t lines p e status =
     (l : DrawnLabel) × IsLabelFor font.now options l
     × DoesLabel (λ drawn told. FontLabelsGive (places p.shown) l drawn.answer (reader_in p.font) p.lines told
-    × LinesTellDefectsOf composed_glyphs p.font.left_before l.setting p.lines.left_before drawn.answer
+    × ClaimsIfFree l.space (LinesTellDefectsOf composed_glyphs p.font.left_before l.setting p.lines.left_before drawn.answer)
     × IfSome p.font.left_before (HintsBy l drawn)) l folder closed e status
 Performs (Bdf asked) folder closed t lines p e status = PerformsBdf (bdf_view asked) folder closed t e status
 

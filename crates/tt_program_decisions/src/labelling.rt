@@ -10,7 +10,7 @@ use tt_core::Reading;
 use tt_face::{LineRules, Opening};
 use tt_fit::Fit;
 use tt_program_words::{CENTRE, LEFT, RIGHT};
-use tt_render_settings::{Align, Label, Missing, Product, Setting};
+use tt_render_settings::{Align, Label, Missing, Product, Setting, Space};
 use tt_render_texts::{PictureFormat, reading_asked};
 
 /// The options of `label`.
@@ -19,6 +19,8 @@ pub struct LabelOptions {
     pub size: u32,
     pub margin: u32,
     pub align: Align,
+    /// The space that each picture is asked to have.
+    pub space: Space,
     pub fit: Fit,
     pub missing: Missing,
     /// The number of the face, if one is asked for.
@@ -65,13 +67,15 @@ pub(crate) fn labelling_of<'a, A: Arguments<'a>>(arguments: &A) -> Option<Reques
 }
 
 /// The options `--size SIZE --margin MARGIN --align ALIGN --fit FIT --missing MISSING`, where all are present, and
-/// `--face FACE`, which may be absent, with the rules of `rules_of`; and `--keep-going`, `--png` and `--output FILE`. None where there are no rules, or where the name of a
+/// `--face FACE` and `--width WIDTH`, which may be absent, with the rules of `rules_of`; and `--keep-going`, `--png` and
+/// `--output FILE`. None where there are no rules, or where the name of a
 /// side, of the way to fit, or of the treatment of missing glyphs, is unknown.
 fn label_options_of<'a, A: Arguments<'a>>(arguments: &A) -> Option<LabelOptions>
     ensures { AsksLabelOptions (A.text arguments.now) (A.IsNumber arguments.now) (A.IsFlag arguments.now) result }
 {
     let size = arguments.number_for("size");
     let margin = arguments.number_for("margin");
+    let space = Space::asked(arguments.number_for("width"));
     let align = arguments.text_for("align");
     let fit = arguments.text_for("fit");
     let missing = arguments.text_for("missing");
@@ -84,6 +88,7 @@ fn label_options_of<'a, A: Arguments<'a>>(arguments: &A) -> Option<LabelOptions>
         size: size?,
         margin: margin?,
         align: align_named(align?)?,
+        space,
         fit: fit_named(fit?)?,
         missing: missing_named(missing?)?,
         face,
@@ -126,6 +131,7 @@ pub(crate) fn label_for<'a>(path: &'a str, options: &LabelOptions) -> Label<'a>
     Label {
         setting,
         align: options.align,
+        space: options.space,
         path,
         face_given: options.face.is_some(),
         format: options.format,

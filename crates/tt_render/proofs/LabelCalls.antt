@@ -14,7 +14,7 @@ use Rattle.tt_render_texts.specs.declared.refusal.Refusal.{Refusal}
 use Rattle.tt_render_texts.specs.declared.refusal.Refusal.TheVariants as reason
 use Rattle.tt_render_texts.specs.declared.refusal.TextsFault.{TextsFault}
 use Rattle.tt_render_settings.specs.declared.setting.Setting.{Setting}
-use Rattle.tt_render.specs.Labels.{FileLabelsGive, FontLabelsGive, IsUnopened, StopsUnopened, hint_for}
+use Rattle.tt_render.specs.Labels.{FileLabelsGive, IsUnopened, OpenedLabelsGive, StopsUnopened, hint_for}
 use Rattle.tt_render_texts.specs.Printing.{Errors}
 use Rattle.tt_render_settings.specs.Lines.{Outlet}
 use Rattle.tt_render_settings.specs.Settings.{setting_tested, strike_of}
@@ -59,6 +59,7 @@ stopped l file (reason.Font fault) None f passes read is = (passes, file, read, 
 stopped l file reason.Memory None f passes read is = (passes, ((file, read.0), read.2))
 stopped l file (reason.Job j) None f passes read is = absurd is
 stopped l file reason.NotUtf8 None f passes read is = absurd is
+stopped l file (reason.Space wrong) None f passes read is = absurd is
 stopped l file (reason.Missing c) None f passes read is = absurd is
 stopped l file reason.FontRead None f passes read is = absurd is
 stopped l file reason.FontLarge None f passes read is = absurd is
@@ -70,6 +71,7 @@ stopped l file (reason.Font fault) (Some n) f passes read is = absurd is
 stopped l file reason.Memory (Some n) f passes read is = absurd is
 stopped l file (reason.Job j) (Some n) f passes read is = absurd is
 stopped l file reason.NotUtf8 (Some n) f passes read is = absurd is
+stopped l file (reason.Space wrong) (Some n) f passes read is = absurd is
 stopped l file (reason.Missing c) (Some n) f passes read is = absurd is
 stopped l file reason.FontRead (Some n) f passes read is = absurd is
 stopped l file reason.FontLarge (Some n) f passes read is = absurd is
@@ -81,7 +83,7 @@ stopped l file reason.Many (Some n) f passes read is = absurd is
 -- the labels of lines by the bytes of a font, and by the reader that gave these
 pub by_reader : (to : Outlet) (l : Label) (file : List ℕ) (r : Result (Option TextsFault) TextsFault) (f : FontReader)
     (t : Traffic) (e : Errors) → setting_tested l.setting ≡ Ok tt → FontIsRead f file → FileLabelsGive to l file r t e
-    → FontLabelsGive to l r f t e
+    → OpenedLabelsGive to l r f t e
 by_reader to l file (Ok v) f t e passes read (inl (stops, rest)) = absurd stops
 by_reader to l file (Ok v) f t e passes read (inr (s, opened, gives)) = inr (passes, file, read, s, opened, gives)
 by_reader to l file (Err fault) f t e passes read (inl (stops, rest)) =

@@ -8,6 +8,7 @@ use Rattle.tt_core.specs.declared.fault.JobFault.TheVariants as fault
 use Rattle.tt_strike.specs.Refusals.{job}
 use Rattle.tt_strike.specs.Strikes.{Strike}
 use Rattle.tt_render_settings.specs.declared.label.Label.{Label}
+use Rattle.tt_render.specs.LabelSpaces.{label_image}
 use Rattle.tt_render.specs.Labels.{composed_answer, label_answer, line_labelled}
 use Rattle.tt_render_texts.specs.Lines.{line_limit}
 use Rattle.tt_render_settings.specs.Texts.{not_utf8, refused}
@@ -42,12 +43,12 @@ label_of_text l s line text short is_text =
 -- the answer of a label does not depend on the cache's limit
 pub most_aside : (l : Label) (s : Strike) (most : ℕ) (text : List ℕ)
     → label_answer l s text ≡ label_answer l (record s { most = most }) text
-unfolding label_answer composed_answer
+unfolding label_answer composed_answer label_image
 most_aside l s most text = refl
 
 -- a label is drawn alike whatever glyphs are cached
 kept_aside : (l : Label) (s t : Strike) → line_labelled l (record s { kept = t.kept }) ≡ line_labelled l s
-unfolding line_labelled label_answer composed_answer
+unfolding line_labelled label_answer composed_answer label_image
 kept_aside l s t = refl
 
 pub labelled_alike : (l : Label) (s t : Strike) → t ≡ record s { kept = t.kept } → line_labelled l t ≡ line_labelled l s

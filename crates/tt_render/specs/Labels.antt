@@ -16,7 +16,7 @@ use Rattle.tt_strike.specs.Job.{tested}
 use Rattle.tt_strike.specs.Refusals.{Refused, as_job, font}
 use Rattle.tt_strike.specs.Strikes.{Strike, job_of}
 use Rattle.tt_render_streams.specs.declared.pictures.NotPut.{NotPut}
-use Rattle.tt_render_streams.specs.File.{as_file_in}
+use Rattle.tt_render_streams.specs.File.{file_in}
 use Rattle.tt_render_streams.specs.Formed.{IsWhole, formed_bytes, formed_picture}
 use Rattle.tt_render_streams.specs.Putting.{IsPart}
 use Rattle.tt_rows.specs.Composed.{composed}
@@ -24,21 +24,23 @@ use Rattle.tt_render_settings.specs.Help.{label_lines_of}
 use Rattle.tt_render_settings.specs.declared.label.Label.{Label}
 use Rattle.tt_render_settings.specs.declared.label.LabelsDrawn.{LabelsDrawn}
 use Rattle.tt_render.specs.declared.label_answers.ReadyLabel.{ReadyLabel}
+use Rattle.tt_render.specs.LabelSpaces.{HasSpace, IsMisfit, cost_in, cut_of, label_image, report_in}
 use Rattle.tt_render_texts.specs.declared.refusal.Refusal.{Refusal}
 use Rattle.tt_render_texts.specs.declared.refusal.Refusal.TheVariants as reason
 use Rattle.tt_render_texts.specs.declared.refusal.TextsFault.{TextsFault}
+use Rattle.tt_render_texts.specs.declared.label_reports.CutInk.{CutInk}
 use Rattle.tt_render_texts.specs.declared.label_reports.Signs.{Signs}
 use Rattle.tt_render_settings.specs.Lines.{Drawing, Outlet, line_answer}
 use Rattle.tt_render_texts.specs.Printing.{Errors}
 use Rattle.tt_render_texts.specs.Reports.{label_report_of, told_view}
 use Rattle.tt_render_settings.specs.Settings.{job_by, setting_tested, strike_of}
-use Rattle.tt_label.specs.Label.{label_cost, label_glyphs, label_outcome, label_report}
+use Rattle.tt_label.specs.Label.{label_glyphs}
 use Rattle.tt_line.specs.Labels.{label_lines}
 use Rattle.tt_render_texts.specs.Answers.{LabelTold, TextAnswer}
 use Rattle.tt_render_settings.specs.Texts.{TextRefusal, answer_with, as_text, missing_among}
-use Rattle.tt_render_settings.specs.TextsOutcome.{FontAnswers, IsIdle, IsNotReady, LinesGive, OpensFont, StopsAtFont, line_fault, telling}
+use Rattle.tt_render_settings.specs.TextsOutcome.{FontAnswers, IsIdle, IsNotReady, IsSilent, LinesGive, OpensFont, StopsAtFont, line_fault, reader_in, telling}
 use Rattle.tt_render_streams.specs.Traffic.{Traffic}
-use Rattle.tt_render_streams.specs.Reading.{FontReader}
+use Rattle.tt_render_streams.specs.Reading.{FontIsUnread, FontReader}
 use Rattle.tt_render_texts.specs.Views.{refusal_of_put}
 
 -- the first character of some lines that has a sign
@@ -77,10 +79,11 @@ face_number (reading.Wide face) = face
 abbrev pub label_notes : Label → List ℕ → List ℕ
 label_notes l file = font_notes l.path.now file (face_number l.setting.opening.reading) l.face_given
 
--- what is reported of a label, by its font's file
-abbrev pub label_told : Label → List ℕ → List ℕ → LabelTold
-label_told l file text = record {
+-- what is reported of a label, by its font's file and by the ink that its picture lacks
+abbrev pub label_told : Label → List ℕ → CutInk → List ℕ → LabelTold
+label_told l file cut text = record {
   fit = l.setting.fit;
+  cut = cut;
   signs = signs_of (label_lines text);
   font = label_notes l file;
 }
@@ -96,11 +99,12 @@ composed_glyphs m text = label_glyphs m (composed_text m text)
 -- the answer of a label's text, whose letters are composed, by a font's tables at a size
 unfoldable pub composed_answer : Label → Strike → List ℕ → Result TextAnswer TextRefusal
 composed_answer l s text =
-    answer_with (Some (label_told l s.face.directory.file text))
-    (as_file_in l.format (label_outcome s.face (job_of s text l.setting.margin) l.align))
-    (label_report s.face (job_of s text l.setting.margin) l.align)
+    label_image l s text >>= λ i.
+    answer_with (Some (label_told l s.face.directory.file (cut_of i) text))
+    (Ok (file_in l.format i.shown))
+    (report_in l.space s.face (job_of s text l.setting.margin) l.align)
     (missing_among l.setting.missing (lines_lacking s.face.cmap (label_lines text)))
-    (label_cost s.face (job_of s text l.setting.margin) l.align)
+    (cost_in l.space s.face (job_of s text l.setting.margin) l.align)
 
 -- the answer of a label's text: its characters are counted before they are composed
 unfoldable pub label_answer : Label → Strike → List ℕ → Result TextAnswer TextRefusal
@@ -158,21 +162,29 @@ hint_of (Err fault) file r = hint_for fault.refusal file r
 abbrev pub HintsBy : Label → LabelsDrawn → List ℕ → Type 0
 HintsBy l e file = e.hint ≡ hint_of e.answer file l.setting.opening.reading
 
--- a call stopped before it drew the text, or memory ran out by then; or it drew the text by a font
+-- a call stopped for the space of its label; or it stopped before it drew the text, or memory ran out by then; or it drew
+-- the text by a font
 abbrev pub FontLabelGives : {V : Type 0} → Outlet → Label → List ℕ → Result V TextsFault → Traffic → Errors → Type 0
-FontLabelGives to l text r t e = FontAnswers to l.setting (λ s. label_answer l s text) text r t e
+FontLabelGives to l text r t e =
+    (IsMisfit l r × FontIsUnread (reader_in t) × IsSilent t e)
+    ⊎ (HasSpace l × FontAnswers to l.setting (λ s. label_answer l s text) text r t e)
 
 -- a call drew the lines of a text by an opened font, each as a label of its own
 abbrev pub LabelsGive : Outlet → Label → Strike → Result (Option TextsFault) TextsFault → Traffic → Errors → Type 0
 LabelsGive to l s r t e = LinesGive (λ first. first) (labels_drawing to l s) r t e
 
 -- a call stopped before it read a line, or drew the lines of a text by a font
-abbrev pub FontLabelsGive : Outlet → Label → Result (Option TextsFault) TextsFault → FontReader → Traffic → Errors → Type 0
-FontLabelsGive to l r f t e =
+abbrev pub OpenedLabelsGive : Outlet → Label → Result (Option TextsFault) TextsFault → FontReader → Traffic → Errors → Type 0
+OpenedLabelsGive to l r f t e =
     (StopsAtFont (setting_tested l.setting) (strike_of l.setting) r f × IsIdle t e)
     ⊎ OpensFont (setting_tested l.setting) (strike_of l.setting) f (λ s. LabelsGive to l s r t e)
 
--- the same by the bytes of the font: a table that every text needs is refused, or memory ran out, before a line was read;
+-- the same, or the call stopped for the space of its labels
+abbrev pub FontLabelsGive : Outlet → Label → Result (Option TextsFault) TextsFault → FontReader → Traffic → Errors → Type 0
+FontLabelsGive to l r f t e =
+    (IsMisfit l r × FontIsUnread f × IsIdle t e) ⊎ (HasSpace l × OpenedLabelsGive to l r f t e)
+
+-- by the bytes of the font: a table that every text needs is refused, or memory ran out, before a line was read;
 -- or the lines are drawn
 abbrev pub IsUnopened : Result Strike Refused → Refusal → Option ℕ → Type 0
 IsUnopened opened (reason.Font f) None = opened ≡ Err (font f)

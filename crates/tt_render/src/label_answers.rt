@@ -4,17 +4,18 @@ ghost use Rattle.std.specs.Prelude.{◌≡◌, ◌≤◌, length, string_bytes, 
 ghost use Rattle.tt_core.specs.Limits.{font_limit};
 ghost use Rattle.tt_core.specs.Outcomes.{GivesUnless};
 ghost use Rattle.tt_render.specs.Labels.{CanGoOut, TellsLabel, composed_answer, composed_glyphs, face_number, label_answer, label_notes, label_view};
+ghost use Rattle.tt_render.specs.LabelSpaces.{ClaimsIfFree};
 ghost use Rattle.tt_render_settings.specs.LinesDefects.{IsDefectBy};
 ghost use Rattle.tt_label.specs.Label.{label_glyphs};
 ghost use Rattle.tt_render_settings.specs.TextsOutcome.{IsOfText, refusal_font_fault, told, without_line};
 ghost use Rattle.tt_strike.specs.Defects.{TellsDefects};
 
+use crate::label_spaces::{CutLabel, label_picture};
 use crate::label_texts::missing_in;
 use crate::signs::signs_of;
 use std::alloc::{AllocError, Global};
 use tt_advice::font_notes;
 use tt_core::Reading;
-use tt_label::label;
 use tt_render_settings::Label;
 use tt_render_streams::{Formed, form};
 use tt_render_texts::{LabelTold, Messages, TextsFault};
@@ -51,7 +52,7 @@ pub(crate) fn notes_of(alloc: Global, file: &[u8], asked: &Label) -> Result<Stri
     font_notes(alloc, asked.path, file, face, asked.face_given)
 }
 
-/// The answer of a text whose letters are composed. Errors, the first of: those of `label`; Missing.
+/// The answer of a text whose letters are composed. Errors, the first of: those of `label_picture`; Missing.
 #[tactic(auto, unfolding(crate::specs::Labels::composed_answer))]
 fn answer_composed<'n>(
     alloc: Global,
@@ -66,14 +67,16 @@ fn answer_composed<'n>(
     ensures valid { IfOk result CanGoOut }
     ensures report { IfOk result (TellsLabel number) }
     ensures serves { IsOfText (without_line result) }
-    ensures defects { TellsDefects refusal_font_fault (IsDefectBy label_glyphs asked.now.setting strike.old text.now) (without_line result) }
+    ensures defects { ClaimsIfFree asked.now.space (TellsDefects refusal_font_fault (IsDefectBy label_glyphs asked.now.setting strike.old text.now) (without_line result)) }
     ensures same { strike.new ≡ record strike.old { kept = strike.new.kept } }
 {
-    let picture = label(strike, text, asked.setting.margin, asked.align)?;
+    let drawn = label_picture(strike, asked, text)?;
+    let CutLabel { picture, cut } = drawn;
     let formed = form(alloc, picture, asked.format)?;
     let lacking = missing_in(alloc, strike, asked.setting.missing, text)?;
     let told = LabelTold {
         fit: asked.setting.fit,
+        cut,
         signs: signs_of(text),
         font: notes,
     };
@@ -89,8 +92,8 @@ fn answer_composed<'n>(
 
 /// The answer of a text as a label by a strike, with the lines about the font of its face; `number` is that of a line. Two
 /// characters beside each other that are the composition of one that the font has are drawn, and reported, as that one.
-/// Errors, the first of: Job of the size, the margin and the characters before they are composed; those of `label`;
-/// Missing. The caller puts the line into an error.
+/// Errors, the first of: Job of the size, the margin and the characters before they are composed; those of
+/// `label_picture`; Missing. The caller puts the line into an error.
 #[tactic(auto, unfolding(crate::specs::Labels::label_answer, crate::specs::Labels::composed_text))]
 pub(crate) fn answer_label<'n>(
     alloc: Global,
@@ -105,7 +108,7 @@ pub(crate) fn answer_label<'n>(
     ensures valid { IfOk result CanGoOut }
     ensures report { IfOk result (TellsLabel number) }
     ensures serves { IsOfText (without_line result) }
-    ensures defects { TellsDefects refusal_font_fault (IsDefectBy composed_glyphs asked.now.setting strike.old text.now) (without_line result) }
+    ensures defects { ClaimsIfFree asked.now.space (TellsDefects refusal_font_fault (IsDefectBy composed_glyphs asked.now.setting strike.old text.now) (without_line result)) }
     ensures same { strike.new ≡ record strike.old { kept = strike.new.kept } }
 {
     test_job(&asked.setting.job(text))?;

@@ -8,6 +8,7 @@ ghost use Rattle.tt_render_streams.specs.Formed.{formed_bytes};
 ghost use Rattle.tt_render_streams.specs.Traffic.{traffic_of};
 ghost use Rattle.tt_render_streams.specs.Reading.{font_reader_of};
 ghost use Rattle.tt_render.specs.Labels.{CanGoOut, FileLabelsGive, FontLabelGives, FontLabelsGive, HintsBy, IsNotSent, LabelReadies, LabelsGive, TellsLabel, composed_glyphs, hint_for, label_answer, label_notes, label_view, line_labelled};
+ghost use Rattle.tt_render.specs.LabelSpaces.{ClaimsIfFree};
 ghost use Rattle.tt_render_texts.specs.Lines.{line_limit};
 ghost use Rattle.tt_render_settings.specs.LinesDefects.{IsDefectBy, IsTextDefect, LinesTell, LinesTellDefects, LinesTellDefectsOf};
 ghost use Rattle.tt_render_settings.specs.Help.{label_lines_of};
@@ -25,7 +26,8 @@ use std::str;
 use tt_advice::{Hint, advice};
 use tt_core::{Sink, Source};
 use tt_render_settings::{
-    Found, Label, LabelsDrawn, earlier, goes_on, label_lines, next_line, test_setting,
+    Found, Label, LabelsDrawn, earlier, goes_on, label_lines, next_line, refused_cost,
+    refused_space, test_setting,
 };
 use tt_render_streams::{Pictures, read_font};
 use tt_render_texts::{
@@ -45,6 +47,7 @@ fn hint_for(refusal: Refusal, file: &[u8], asked: &Label) -> Option<Hint>
             face_number(asked.setting.opening.reading),
         )),
         Refusal::Job(_)
+        | Refusal::Space(_)
         | Refusal::NotUtf8
         | Refusal::Missing(_)
         | Refusal::FontRead
@@ -102,7 +105,7 @@ fn draw<'n>(
     requires notes { notes.now ≡ label_notes asked.now file.now }
     requires tested { tested (job_by asked.now.setting text.now) ≡ Ok tt }
     ensures outcome { LabelReadies (λ s. label_answer asked.now s text.now) (strike_of asked.now.setting file.now) result }
-    ensures defects { TextTellsDefects (IsTextDefect composed_glyphs asked.now.setting text.now file.now) result }
+    ensures defects { ClaimsIfFree asked.now.space (TextTellsDefects (IsTextDefect composed_glyphs asked.now.setting text.now file.now) result) }
     ensures valid { IfOk result CanGoOut }
     ensures report { IfOk result (TellsLabel None) }
 {
@@ -115,11 +118,12 @@ fn draw<'n>(
 }
 
 /// Draws one text as a label by a font, and puts its picture into its place: that of its lines, one below the other,
-/// enlarged so that no ink is cut. Before that the picture is whole in memory. Then its report is printed on `error`, and behind
+/// enlarged so that no ink is cut; or that of its rows in the asked width, whose report says what is cut at the sides.
+/// Before that the picture is whole in memory. Then its report is printed on `error`, and behind
 /// that report the lines about the font. A failure of `error` does not change the answer.
 ///
-/// Errors, the first of these, with no line: Job (SizeRange, MarginRange, and TextLong, of more than 4,096 characters),
-/// before the font is read; FontRead, FontLarge; Font, of the tables needed for every text; Font and Job of `label`;
+/// Errors, the first of these, with no line: Job (SizeRange, MarginRange), Space (WidthRange) and Job (TextLong, of more
+/// than 4,096 characters), before the font is read; FontRead, FontLarge; Font, of the tables needed for every text; Font and Job of `label`;
 /// Missing; Create; and Write. Memory may come at any allocation, and then nothing was written. A fault of the font has the hint
 /// about the font's file.
 pub fn draw_label<R: Source, P: Pictures, E: Sink>(
@@ -136,9 +140,12 @@ pub fn draw_label<R: Source, P: Pictures, E: Sink>(
     // Either the call stopped before the text was drawn, and did nothing else. Or the font was read to its end and
     // opened, and the writing and printing are as defined for the label by that font.
     ensures outcome { FontLabelGives (places P.shown) asked.now text.now result.answer (traffic_of R.left R.has_failed P.written P.has_failed font.old font.new out.old out.new) (errors_of E.written E.has_failed error.old error.new) }
-    ensures defects { TextTellsDefectsOf (R.left font.old) (IsTextDefect composed_glyphs asked.now.setting text.now) result.answer }
+    ensures defects { ClaimsIfFree asked.now.space (TextTellsDefectsOf (R.left font.old) (IsTextDefect composed_glyphs asked.now.setting text.now) result.answer) }
     ensures hint { IfSome (R.left font.old) (HintsBy asked.now result) }
 {
+    if let Some(fault) = refused_space(asked) {
+        return unhinted(Refusal::Space(fault));
+    }
     if let Err(fault) = test_job(&asked.setting.job(text)) {
         return unhinted(Refusal::Job(fault));
     }
@@ -180,7 +187,7 @@ fn draw_line<'n>(
     ensures valid { IfOk result CanGoOut }
     ensures report { IfOk result (TellsLabel (Some number)) }
     ensures serves { IsOfText (without_line result) }
-    ensures defects { IfTold refusal_font_fault (without_line result) (IsDefectBy composed_glyphs asked.now.setting strike.old line.now) }
+    ensures defects { ClaimsIfFree asked.now.space (IfTold refusal_font_fault (without_line result) (IsDefectBy composed_glyphs asked.now.setting strike.old line.now)) }
     ensures same { strike.new ≡ record strike.old { kept = strike.new.kept } }
 {
     let Ok(text) = str::from_utf8(line) else {
@@ -253,7 +260,7 @@ fn draw_labels_by<R: Source, P: Pictures, E: Sink>(
     requires error { E.has_failed error.old ≡ false }
     requires notes { notes.now ≡ label_notes asked.now strike.old.face.directory.file }
     ensures outcome { LabelsGive (places P.shown) asked.now strike.old result (traffic_of R.left R.has_failed P.written P.has_failed lines.old lines.new out.old out.new) (errors_of E.written E.has_failed error.old error.new) }
-    ensures defects { LinesTell (IsDefectBy composed_glyphs asked.now.setting strike.old) (R.left lines.old) result }
+    ensures defects { ClaimsIfFree asked.now.space (LinesTell (IsDefectBy composed_glyphs asked.now.setting strike.old) (R.left lines.old) result) }
 {
     let mut reader = LineReader::new(alloc)?;
     let mut used = 0;
@@ -264,8 +271,10 @@ fn draw_labels_by<R: Source, P: Pictures, E: Sink>(
             Ok(Found::Line(place)) => place,
             Ok(Found::End) => return Ok(first),
             Ok(Found::Refused(why)) => {
-                let fault = texts_fault(Some(number), Refusal::Job(why));
+                let why = Refusal::Job(why);
+                let fault = texts_fault(Some(number), why);
                 first = pass(alloc, asked, fault, first, error)?;
+                used += refused_cost(why);
                 continue;
             }
             Err(why) => return Err(texts_fault(Some(number), why)),
@@ -274,8 +283,10 @@ fn draw_labels_by<R: Source, P: Pictures, E: Sink>(
         let ready = match draw_line(alloc, strike, notes, asked, number, line) {
             Ok(ready) => ready,
             Err(refused) => {
-                let fault = texts_fault(Some(number), refused.refusal);
+                let why = refused.refusal;
+                let fault = texts_fault(Some(number), why);
                 first = pass(alloc, asked, fault, first, error)?;
+                used += refused_cost(why);
                 continue;
             }
         };
@@ -304,7 +315,7 @@ fn draw_labels_of<R: Source, P: Pictures, E: Sink>(
     requires size { length file.now ≤ font_limit }
     requires tested { setting_tested asked.now.setting ≡ Ok tt }
     ensures outcome { FileLabelsGive (places P.shown) asked.now file.now result (traffic_of R.left R.has_failed P.written P.has_failed lines.old lines.new out.old out.new) (errors_of E.written E.has_failed error.old error.new) }
-    ensures defects { LinesTellDefects composed_glyphs asked.now.setting (R.left lines.old) result file.now }
+    ensures defects { ClaimsIfFree asked.now.space (LinesTellDefects composed_glyphs asked.now.setting (R.left lines.old) result file.now) }
 {
     let face = Face::read_with(file, asked.setting.opening)?;
     let setting = asked.setting;
@@ -320,8 +331,8 @@ fn draw_labels_of<R: Source, P: Pictures, E: Sink>(
 /// behind the first one come the lines about the font. A failure of `error` does not stop the drawing. With `Fit::Best`
 /// the lines share the budget of `draw_lines`.
 ///
-/// Errors, the first of: Job (SizeRange, MarginRange), before the font is read; FontRead, FontLarge; Font, of the
-/// tables needed for every text; then, line by line, with the line's number, from 1: Read; Job (TextLong, of more than
+/// Errors, the first of: Job (SizeRange, MarginRange) and Space (WidthRange), before the font is read; FontRead, FontLarge;
+/// Font, of the tables needed for every text; then, line by line, with the line's number, from 1: Read; Job (TextLong, of more than
 /// 16,384 bytes; WorkLarge, where the lines before it took more than their budget); NotUtf8; Font and Job of `label`;
 /// Missing; Create, where no place is made for its picture; and Write. Many comes after 4,294,967,295 lines, and after
 /// 2^64 - 1 reads of one line. Memory may come at any allocation. A fault of the font has the hint about the font's file.
@@ -340,9 +351,12 @@ pub fn draw_labels<F: Source, R: Source, P: Pictures, E: Sink>(
     ensures outcome { FontLabelsGive (places P.shown) asked.now result.answer (font_reader_of F.left F.has_failed font.old font.new) (traffic_of R.left R.has_failed P.written P.has_failed lines.old lines.new out.old out.new) (errors_of E.written E.has_failed error.old error.new) }
     // A font's fault in an answer is a defect of the font: of the tables needed for every text, or of the data that the
     // numbered line is drawn from.
-    ensures defects { LinesTellDefectsOf composed_glyphs (F.left font.old) asked.now.setting (R.left lines.old) result.answer }
+    ensures defects { ClaimsIfFree asked.now.space (LinesTellDefectsOf composed_glyphs (F.left font.old) asked.now.setting (R.left lines.old) result.answer) }
     ensures hint { IfSome (F.left font.old) (HintsBy asked.now result) }
 {
+    if let Some(why) = refused_space(asked) {
+        return unhinted(Refusal::Space(why));
+    }
     if let Err(fault) = test_setting(&asked.setting) {
         return unhinted(Refusal::Job(fault));
     }

@@ -4,6 +4,7 @@
 
 mod label_answers;
 mod label_drawing;
+mod label_spaces;
 mod label_texts;
 mod signs;
 

@@ -83,6 +83,7 @@ pub layout_tells : (V : Type 0) (a : Setting) (text file : List ℕ) (face : Fac
 layout_tells V a text file face (reason.Font f) there stands serves = inr (rw there stands)
 layout_tells V a text file face (reason.Job j) there stands serves = tt
 layout_tells V a text file face reason.NotUtf8 there stands serves = tt
+layout_tells V a text file face (reason.Space wrong) there stands serves = tt
 layout_tells V a text file face (reason.Missing c) there stands serves = tt
 layout_tells V a text file face reason.FontRead there stands serves = tt
 layout_tells V a text file face reason.FontLarge there stands serves = tt

@@ -26,7 +26,7 @@ use crate::text_answers::{ReadyText, answer_text};
 use std::alloc::{AllocError, Global};
 use std::str;
 use tt_core::{Sink, Source};
-use tt_render_settings::{Found, Setting, earlier, goes_on, next_line, test_setting};
+use tt_render_settings::{Found, Setting, earlier, goes_on, next_line, refused_cost, test_setting};
 use tt_render_streams::read_font;
 use tt_render_texts::{LineReader, Refusal, TextsFault, print_text, texts_fault, texts_line};
 use tt_strike::{Face, Strike, test_job};
@@ -215,8 +215,10 @@ fn draw_lines_by<R: Source, W: Sink, E: Sink>(
                 });
             }
             Ok(Found::Refused(why)) => {
-                let fault = texts_fault(Some(number), Refusal::Job(why));
+                let why = Refusal::Job(why);
+                let fault = texts_fault(Some(number), why);
                 first = pass(alloc, setting.keep_going, fault, first, error)?;
+                used += refused_cost(why);
                 continue;
             }
             Err(why) => return Err(texts_fault(Some(number), why)),
@@ -225,8 +227,10 @@ fn draw_lines_by<R: Source, W: Sink, E: Sink>(
         let ready = match draw_line(alloc, strike, file, setting, number, line) {
             Ok(ready) => ready,
             Err(refused) => {
-                let fault = texts_fault(Some(number), refused.refusal);
+                let why = refused.refusal;
+                let fault = texts_fault(Some(number), why);
                 first = pass(alloc, setting.keep_going, fault, first, error)?;
+                used += refused_cost(why);
                 continue;
             }
         };

@@ -71,6 +71,7 @@ stop_tells IsOne d text left out written e before used first (reason.Font f) so_
     numbered IsOne d text left out written e before used first f so_far is
 stop_tells IsOne d text left out written e before used first (reason.Job j) so_far is = tt
 stop_tells IsOne d text left out written e before used first reason.NotUtf8 so_far is = tt
+stop_tells IsOne d text left out written e before used first (reason.Space wrong) so_far is = tt
 stop_tells IsOne d text left out written e before used first (reason.Missing c) so_far is = tt
 stop_tells IsOne d text left out written e before used first reason.FontRead so_far is = tt
 stop_tells IsOne d text left out written e before used first reason.FontLarge so_far is = tt
@@ -89,6 +90,7 @@ begun_tells IsOne text left after r keeps before used reason.Many found = tt
 begun_tells IsOne text left after r keeps before used (reason.Font f) found = absurd found
 begun_tells IsOne text left after r keeps before used (reason.Job j) found = absurd found
 begun_tells IsOne text left after r keeps before used reason.NotUtf8 found = absurd found
+begun_tells IsOne text left after r keeps before used (reason.Space wrong) found = absurd found
 begun_tells IsOne text left after r keeps before used (reason.Missing c) found = absurd found
 begun_tells IsOne text left after r keeps before used reason.FontRead found = absurd found
 begun_tells IsOne text left after r keeps before used reason.FontLarge found = absurd found
@@ -110,6 +112,7 @@ line_tells glyphs a file face text (reason.Font f) (Some n) there tells =
     if_some_more text _ (λ all. IsDefectIn glyphs a file (line_numbered all n) f) (λ all is. rw there is) tells
 line_tells glyphs a file face text (reason.Job j) line there tells = tt
 line_tells glyphs a file face text reason.NotUtf8 line there tells = tt
+line_tells glyphs a file face text (reason.Space wrong) line there tells = tt
 line_tells glyphs a file face text (reason.Missing c) line there tells = tt
 line_tells glyphs a file face text reason.FontRead line there tells = tt
 line_tells glyphs a file face text reason.FontLarge line there tells = tt

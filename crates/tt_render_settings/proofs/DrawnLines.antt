@@ -11,7 +11,7 @@ use Rattle.tt_strike.specs.Strikes.{Strike}
 use Rattle.tt_render_settings.specs.declared.setting.Setting.{Setting}
 use Rattle.tt_render_texts.specs.declared.refusal.TextsFault.{TextsFault}
 use Rattle.tt_render_texts.specs.LineReading.{BeginsLong, LosesLine}
-use Rattle.tt_render_settings.specs.Lines.{Drawing, LinesDrawn, cost_drawn, drawn_from, drawn_with, line_drawn, lines_budget, passed_with, passing, text_drawn, tried}
+use Rattle.tt_render_settings.specs.Lines.{Drawing, LinesDrawn, cost_drawn, cost_refused, drawn_from, drawn_with, line_drawn, lines_budget, passed_with, passing, text_drawn, tried}
 use Rattle.tt_render_texts.specs.Lines.{line_limit, lines_of}
 use Rattle.tt_render_settings.specs.TextsOutcome.{HasLine, IsFirst, SendsDrawn, SendsFirstLines, SendsSome, earlier, told}
 use Rattle.tt_render_texts.specs.streams.Traffic.{Traffic}
@@ -299,12 +299,11 @@ pub is_passed_over : (d : Drawing) (b : Option (List ℕ)) (e : PrintedBehind) (
     (why : TextRefusal) (words : List ℕ) (next : TextsFault) → tried d number used line ≡ Err why
     → passing d.tells (number + 1) why ≡ Some words → (next.line ≡ Some (number + 1)) × (told next.refusal ≡ Some why)
     → PrintsBehind e.failed (record { before = e.before; after = e.after; failed = e.now }) words
-    → IsNext d b b e number used line used (Some next)
+    → IsNext d b b e number used line (used + cost_refused why) (Some next)
 is_passed_over d b e number used line why words next is passes of printed =
-    let none : used + 0 ≡ used = omega arith in
     let one : drawn_from d number used (line ∷ [])
-    ≡ record { bytes = []; told = words ++ []; used = used; first = Some (number + 1, why); stop = None } =
-    rw (is, passes, none) refl in
+    ≡ record { bytes = []; told = words ++ []; used = used + cost_refused why; first = Some (number + 1, why); stop = None } =
+    rw (is, passes) refl in
     let bytes : (drawn_from d number used (line ∷ [])).bytes ≡ [] = ap (λ (l : LinesDrawn). l.bytes) one in
     let told_is : (drawn_from d number used (line ∷ [])).told ≡ words = ap (λ (l : LinesDrawn). l.told) one ∙ append-nil words in
     let first : (drawn_from d number used (line ∷ [])).first ≡ Some (number + 1, why) = ap (λ (l : LinesDrawn). l.first) one in

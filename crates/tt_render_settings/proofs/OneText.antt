@@ -60,6 +60,7 @@ pub text_stops : (V : Type 0) (answer : Strike → Result TextAnswer TextRefusal
 text_stops V answer opened s (reason.Font f) is refused serves = inr (s, _, is, refl, refused)
 text_stops V answer opened s (reason.Job j) is refused serves = inr (s, _, is, refl, refused)
 text_stops V answer opened s reason.NotUtf8 is refused serves = inr (s, _, is, refl, refused)
+text_stops V answer opened s (reason.Space wrong) is refused serves = inr (s, _, is, refl, refused)
 text_stops V answer opened s (reason.Missing c) is refused serves = inr (s, _, is, refl, refused)
 text_stops V answer opened s reason.FontRead is refused serves = absurd serves
 text_stops V answer opened s reason.FontLarge is refused serves = absurd serves
@@ -96,7 +97,10 @@ text_fails V to a answer text file e t errors good read why silent = by e.refusa
     by (reason.Job j) None (inr (s, r, opened, tells, answers)) =
         inr (good, file, read, s, opened, (r, tells, answers, silent))
     by reason.NotUtf8 None (inl (f, is, opened)) = absurd cc
+    by (reason.Space wrong) None (inl (f, is, opened)) = absurd cc
     by reason.NotUtf8 None (inr (s, r, opened, tells, answers)) =
+        inr (good, file, read, s, opened, (r, tells, answers, silent))
+    by (reason.Space wrong) None (inr (s, r, opened, tells, answers)) =
         inr (good, file, read, s, opened, (r, tells, answers, silent))
     by (reason.Missing c) None (inl (f, is, opened)) = absurd cc
     by (reason.Missing c) None (inr (s, r, opened, tells, answers)) =
@@ -117,6 +121,7 @@ text_fails V to a answer text file e t errors good read why silent = by e.refusa
     by (reason.Font f) (Some n) why = absurd why
     by (reason.Job j) (Some n) why = absurd why
     by reason.NotUtf8 (Some n) why = absurd why
+    by (reason.Space wrong) (Some n) why = absurd why
     by (reason.Missing c) (Some n) why = absurd why
     by reason.FontRead (Some n) why = absurd why
     by reason.FontLarge (Some n) why = absurd why
@@ -176,6 +181,7 @@ pub text_tells : (V : Type 0) (glyphs : GlyphsOf) (a : Setting) (text file : Lis
 text_tells V glyphs a text file face (reason.Font f) there stands serves = inr (rw there stands)
 text_tells V glyphs a text file face (reason.Job j) there stands serves = tt
 text_tells V glyphs a text file face reason.NotUtf8 there stands serves = tt
+text_tells V glyphs a text file face (reason.Space wrong) there stands serves = tt
 text_tells V glyphs a text file face (reason.Missing c) there stands serves = tt
 text_tells V glyphs a text file face reason.FontRead there stands serves = tt
 text_tells V glyphs a text file face reason.FontLarge there stands serves = tt

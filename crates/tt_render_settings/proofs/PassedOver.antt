@@ -9,9 +9,9 @@ use Rattle.tt_render_texts.specs.declared.refusal.Refusal.{Refusal}
 use Rattle.tt_render_texts.specs.declared.refusal.Refusal.TheVariants as reason
 use Rattle.tt_render_texts.specs.declared.refusal.TextsFault.{TextsFault}
 use Rattle.tt_render_texts.specs.LineReading.{LosesFirst, LosesLine}
-use Rattle.tt_render_settings.specs.Lines.{Drawing, lines_budget, passing}
+use Rattle.tt_render_settings.specs.Lines.{Drawing, cost_refused, lines_budget, passing}
 use Rattle.tt_render_settings.specs.LinesDefects.{LineTells}
-use Rattle.tt_render_settings.specs.TextsOutcome.{IsNotBegun, LinesFail, SendsSome, StopsPassing, earlier, goes_on, line_fault, telling, told}
+use Rattle.tt_render_settings.specs.TextsOutcome.{IsNotBegun, LinesFail, SendsSome, StopsPassing, cost_told, earlier, goes_on, line_fault, refused_cost, telling, told}
 use Rattle.tt_render_texts.specs.streams.Traffic.{Traffic}
 use Rattle.tt_render_texts.specs.Printing.{Errors, PrintsBehind}
 use Rattle.tt_render_texts.specs.Answers.{TextAnswer}
@@ -50,16 +50,19 @@ pub passed_on : (d : Drawing) (keeps : Bool) (words : TextsFault → List ℕ) (
     → LosesFirst left after → IsRefusedFor d number used why left
     → PrintsBehind e.failed (record { before = e.before; after = e.after; failed = e.now })
     (words (record { line = Some (number + 1); refusal = why }))
-    → SoFar d text after a b (record { before = x; after = e.after; failed = e.now }) (number + 1) used
+    → SoFar d text after a b (record { before = x; after = e.after; failed = e.now }) (number + 1) (used + refused_cost why)
     (earlier first (Some (record { line = Some (number + 1); refusal = why })))
 passed_on d keeps words text left after a b x e number used first why tells goes so_far loses begins printed =
     let p : IsPassedFor keeps (tells_by words) (number + 1) why = passes_for keeps (tells_by words) (number + 1) why goes in
     let told_so : PrintsBehind e.failed (record { before = e.before; after = e.after; failed = e.now })
     (tells_by words (number + 1) p.refusal) =
     subst (λ f. PrintsBehind e.failed (record { before = e.before; after = e.after; failed = e.now }) (words f)) (sym p.fault) printed in
-    one_passed d text left after a b x e number used first (record { line = Some (number + 1); refusal = why }) p.refusal
+    let passed = one_passed d text left after a b x e number used first (record { line = Some (number + 1); refusal = why }) p.refusal
     (tells_by words (number + 1) p.refusal) so_far loses (begins p.refusal p.tells)
-    (subst (λ o. passing o (number + 1) p.refusal ≡ Some (tells_by words (number + 1) p.refusal)) (sym tells) p.passes) (refl, p.tells) told_so
+    (subst (λ o. passing o (number + 1) p.refusal ≡ Some (tells_by words (number + 1) p.refusal)) (sym tells) p.passes) (refl, p.tells) told_so in
+    let cost : used + cost_refused p.refusal ≡ used + refused_cost why = ap (λ o. used + cost_told o) (sym p.tells) in
+    subst (λ (n : ℕ). SoFar d text after a b (record { before = x; after = e.after; failed = e.now }) (number + 1) n
+    (earlier first (Some (record { line = Some (number + 1); refusal = why })))) cost passed
 
 -- only where this was asked for
 pub passes_asked : (d : Drawing) (keeps : Bool) (tell : ℕ → TextRefusal → List ℕ) (why : Refusal)

@@ -10,13 +10,13 @@ use Rattle.tt_render_texts.specs.declared.refusal.Refusal.{Refusal}
 use Rattle.tt_render_texts.specs.declared.refusal.Refusal.TheVariants as reason
 use Rattle.tt_render_texts.specs.declared.refusal.TextsFault.{TextsFault}
 use Rattle.tt_render_texts.specs.LineReading.{LosesFirst, LosesLine}
-use Rattle.tt_render_settings.specs.Lines.{Drawing, drawn_from, lines_budget, passing, tried}
+use Rattle.tt_render_settings.specs.Lines.{Drawing, cost_refused, drawn_from, lines_budget, passing, tried}
 use Rattle.tt_render_texts.specs.Lines.{line_limit, lines_of}
 use Rattle.tt_render_settings.specs.TextsOutcome.{BeginsDrawn, FailsByStop, FindsLine, HasLine, IsCut, IsNotBegun, IsOfText, LinesFail, MakesNoPlace, SendsDrawn, SendsFirstLines, SendsFront, StopsAtLine, earlier, goes_on, line_fault, telling, told}
 use Rattle.tt_render_texts.specs.streams.Traffic.{Traffic}
 use Rattle.tt_render_texts.specs.Printing.{Errors, PrintsBehind}
 use Rattle.tt_render_texts.specs.Answers.{TextAnswer}
-use Rattle.tt_render_settings.specs.Texts.{TextRefusal, missing, not_utf8, refused}
+use Rattle.tt_render_settings.specs.Texts.{TextRefusal, misfit, missing, not_utf8, refused}
 use Rattle.tt_render_settings.proofs.DrawnLines.{IsNext, PrintedBehind, SoFar, drawn_append, first_sent, is_passed_over, one_more, some_sent, tried_dear, tried_enough, tried_long}
 
 -- the next line of a text, behind so many that took this much, is refused for this reason
@@ -70,6 +70,7 @@ stops_all false tell number why r tells stops = refl
 stops_all true tell number (reason.Font f) r tells stops = let is : refused (font f) ≡ r = cc in rw (← is) refl
 stops_all true tell number (reason.Job j) r tells stops = absurd cc
 stops_all true tell number reason.NotUtf8 r tells stops = absurd cc
+stops_all true tell number (reason.Space wrong) r tells stops = absurd cc
 stops_all true tell number (reason.Missing c) r tells stops = absurd cc
 stops_all true tell number reason.FontRead r tells stops = absurd cc
 stops_all true tell number reason.FontLarge r tells stops = absurd cc
@@ -92,6 +93,7 @@ passes_for false tell number why goes = absurd cc
 passes_for true tell number (reason.Font f) goes = absurd cc
 passes_for true tell number (reason.Job j) goes = record { refusal = refused (job j); tells = refl; passes = refl; fault = refl }
 passes_for true tell number reason.NotUtf8 goes = record { refusal = not_utf8; tells = refl; passes = refl; fault = refl }
+passes_for true tell number (reason.Space wrong) goes = record { refusal = misfit wrong; tells = refl; passes = refl; fault = refl }
 passes_for true tell number (reason.Missing c) goes = record { refusal = missing c; tells = refl; passes = refl; fault = refl }
 passes_for true tell number reason.FontRead goes = absurd cc
 passes_for true tell number reason.FontLarge goes = absurd cc
@@ -144,6 +146,7 @@ stopped_for d keeps tell left t e number used first why r telling_is stays tells
     by (reason.Font f) tells at = (at, reads, writes)
     by (reason.Job j) tells at = (at, reads, writes)
     by reason.NotUtf8 tells at = (at, reads, writes)
+    by (reason.Space wrong) tells at = (at, reads, writes)
     by (reason.Missing c) tells at = (at, reads, writes)
     by reason.FontRead tells at = absurd cc
     by reason.FontLarge tells at = absurd cc
@@ -174,6 +177,7 @@ stopped_in V d keeps tell other why left after t e number used first line tellin
     by (reason.Font f) stays is serves = at (reason.Font f) _ stays refl is
     by (reason.Job j) stays is serves = at (reason.Job j) _ stays refl is
     by reason.NotUtf8 stays is serves = at reason.NotUtf8 _ stays refl is
+    by (reason.Space wrong) stays is serves = at (reason.Space wrong) _ stays refl is
     by (reason.Missing c) stays is serves = at (reason.Missing c) _ stays refl is
     by reason.FontRead stays is serves = absurd serves
     by reason.FontLarge stays is serves = absurd serves
@@ -196,6 +200,7 @@ stopped_before d keeps r reason.Many left after t e number used first tells so_f
 stopped_before d keeps r (reason.Font f) left after t e number used first tells so_far found reads writes = absurd found
 stopped_before d keeps r (reason.Job j) left after t e number used first tells so_far found reads writes = absurd found
 stopped_before d keeps r reason.NotUtf8 left after t e number used first tells so_far found reads writes = absurd found
+stopped_before d keeps r (reason.Space wrong) left after t e number used first tells so_far found reads writes = absurd found
 stopped_before d keeps r (reason.Missing c) left after t e number used first tells so_far found reads writes = absurd found
 stopped_before d keeps r reason.FontRead left after t e number used first tells so_far found reads writes = absurd found
 stopped_before d keeps r reason.FontLarge left after t e number used first tells so_far found reads writes = absurd found
@@ -210,12 +215,14 @@ pub one_passed : (d : Drawing) (text left after a b x : Option (List ℕ)) (e : 
     → LosesFirst left after → IsRefused d number used why left → passing d.tells (number + 1) why ≡ Some words
     → (next.line ≡ Some (number + 1)) × (told next.refusal ≡ Some why)
     → PrintsBehind e.failed (record { before = e.before; after = e.after; failed = e.now }) words
-    → SoFar d text after a b (record { before = x; after = e.after; failed = e.now }) (number + 1) used (earlier first (Some next))
+    → SoFar d text after a b (record { before = x; after = e.after; failed = e.now }) (number + 1) (used + cost_refused why)
+    (earlier first (Some next))
 one_passed d text left after a b x e number used first next why words so_far loses begins passes of printed =
-    one_more d text left after a b b x e number loses.0 used used first (Some next) so_far loses.1 (own left after loses.1 begins)
+    one_more d text left after a b b x e number loses.0 used (used + cost_refused why) first (Some next) so_far loses.1
+    (own left after loses.1 begins)
   where
     own : (left after : Option (List ℕ)) → LosesLine left after loses.0 → IsRefused d number used why left
-        → IfSome left (λ rest. IsNext d b b e number used loses.0 used (Some next))
+        → IfSome left (λ rest. IsNext d b b e number used loses.0 (used + cost_refused why) (Some next))
     own None after lost begins = tt
     own (Some rest) None lost begins = absurd lost
     own (Some rest) (Some more) lost begins =

@@ -17,6 +17,10 @@ use Rattle.tt_render_texts.specs.declared.refusal.Refusal.{Refusal}
 use Rattle.tt_render_texts.specs.declared.refusal.Refusal.TheVariants as reason
 use Rattle.tt_render_texts.specs.declared.refusal.TextsFault.{TextsFault}
 use Rattle.tt_render_settings.specs.declared.setting.Setting.{Setting}
+use Rattle.tt_render_settings.specs.declared.space.Space.{Space}
+use Rattle.tt_render_settings.specs.declared.space.Space.TheVariants as space
+use Rattle.tt_render_texts.specs.declared.space_fault.SpaceFault.{SpaceFault}
+use Rattle.tt_render_texts.specs.declared.space_fault.SpaceFault.TheVariants as fault
 use Rattle.tt_render_texts.specs.Reports.{head_of}
 use Rattle.tt_render_settings.specs.Settings.{plain_setting}
 use Rattle.tt_render_texts.specs.TextsMessages.{named_line_of, texts_line_of}
@@ -40,11 +44,26 @@ job_help number job.PictureLarge a = fixed_help number (codes "a picture has at 
 job_help number job.WorkLarge a = fixed_help number (codes "the glyphs of this text are too much work at once")
 job_help number job.EmptyPicture a = []
 
+-- the space that is asked for, as on the command line
+abbrev pub space_words : Space → List ℕ
+space_words space.Free = []
+space_words (space.Width width) = decimal width
+
+-- the line about a refused space
+abbrev pub space_help : Option ℕ → SpaceFault → Space → List ℕ
+space_help number fault.WidthRange s =
+    head_of number ++ (codes "--width is 1 to 16384 pixels and more than both margins, not " ++ (space_words s ++ codes "\n"))
+space_help number fault.BoxRange s =
+    head_of number
+    ++ (codes "--box is 1x1 to 16384x4096 pixels and more than both margins, not " ++ (space_words s ++ codes "\n"))
+space_help number fault.BoxSmall s = fixed_help number (codes "the text fits into this box at no size")
+
 -- the line about a refusal, by the line that its message names, and by the hint about the font's file
 abbrev pub help_by : Label → Bool → Refusal → Option ℕ → Option Hint → List ℕ
 help_by l folder (reason.Font f) number h = hint_told l.path.now h
 help_by l folder reason.FontRead number h = folder_help l.path.now folder
 help_by l folder (reason.Job j) number h = job_help number j l.setting
+help_by l folder (reason.Space f) number h = space_help number f l.space
 help_by l folder reason.NotUtf8 number h =
     fixed_help number (codes "the lines have to be UTF-8; iconv(1) changes other encodings")
 help_by l folder why number h = []
@@ -66,6 +85,11 @@ a_margin : job_help None job.MarginRange (plain_setting 300 65 fit.Best (plain_o
     ≡ codes "tt_render: --margin is 0 to 64 pixels, not 65\n"
 unfolding digits
 a_margin = refl
+
+a_width : space_help None fault.WidthRange (space.Width 20)
+    ≡ codes "tt_render: --width is 1 to 16384 pixels and more than both margins, not 20\n"
+unfolding digits
+a_width = refl
 
 the_second_line : fixed_help (Some 2) (codes "the lines have to be UTF-8; iconv(1) changes other encodings")
     ≡ codes "tt_render: line 2: the lines have to be UTF-8; iconv(1) changes other encodings\n"

@@ -4,5 +4,6 @@ pub mod LinesDefects
 pub mod MeasureText
 pub mod Products
 pub mod Settings
+pub mod Spaces
 pub mod Texts
 pub mod TextsOutcome

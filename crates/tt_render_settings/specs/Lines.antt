@@ -51,10 +51,16 @@ pub record Drawing : Type 0 where
 abbrev pub lines_budget : ℕ → ℕ
 lines_budget before = 10000000 + 4000000 * before
 
--- what a line takes of this budget; a refused line takes nothing
+-- what a refused line takes of this budget: as much as a line takes at most that is drawn, where its glyphs are too much
+-- work, or where the lines before it took too much; else nothing
+abbrev pub cost_refused : TextRefusal → ℕ
+cost_refused (refused (job fault.WorkLarge)) = 52000000
+cost_refused why = 0
+
+-- what a line takes of it
 abbrev pub cost_drawn : Result TextAnswer TextRefusal → ℕ
 cost_drawn (Ok a) = a.cost
-cost_drawn (Err why) = 0
+cost_drawn (Err why) = cost_refused why
 
 -- the answer of a line behind others, which took this much. No line is drawn where they took more than the budget
 abbrev pub tried : Drawing → ℕ → ℕ → List ℕ → Result TextAnswer TextRefusal
@@ -164,8 +170,12 @@ behind_dear_lines : map (λ used. tried (letters None) 1 used (codes "B")) (1400
 unfolding letters
 behind_dear_lines = refl
 
--- a refused line takes nothing: the next one may still follow lines that took more
-the_budget_grows_by_each_line : (drawn_from (letters (Some (λ number why. codes "!"))) 1 14000001 (codes "A" ∷ (codes "B" ∷ []))).bytes
-    ≡ codes "B"
+-- lines that took more than the budget leave nothing to the later ones
+none_behind_a_spent_budget : (drawn_from (letters (Some (λ number why. codes "!"))) 1 14000001 (codes "A" ∷ (codes "B" ∷ [])))
+    ≡ record { bytes = []; told = codes "!!"; used = 118000001; first = Some (2, refused (job fault.WorkLarge)); stop = None }
 unfolding letters
-the_budget_grows_by_each_line = refl
+none_behind_a_spent_budget = refl
+
+-- a line that is not UTF-8 takes nothing
+some_lines_take_nothing : cost_drawn (Err not_utf8) ≡ 0
+some_lines_take_nothing = refl

@@ -12,18 +12,25 @@ use Rattle.tt_strike.specs.Strikes.{Strike, job_of}
 use Rattle.tt_render_settings.specs.declared.setting.Missing.{Missing}
 use Rattle.tt_render_settings.specs.declared.setting.Missing.TheVariants as how
 use Rattle.tt_render_settings.specs.declared.setting.Setting.{Setting}
+use Rattle.tt_render_texts.specs.declared.space_fault.SpaceFault.{SpaceFault}
 use Rattle.tt_render_texts.specs.Answers.{LabelTold, TextAnswer}
 use Rattle.tt_render_settings.specs.Products.{product_of}
 
--- why a text is not drawn: it is refused; it is not UTF-8; the font has no glyph for this character
+-- why a text is not drawn: it is refused; its label does not stand in the asked space; it is not UTF-8; the font has no
+-- glyph for this character
 pub data TextRefusal : Type 0 where
   refused : Refused → TextRefusal
+  misfit : SpaceFault → TextRefusal
   not_utf8 : TextRefusal
   missing : ℕ → TextRefusal
 
 abbrev pub as_text : {X : Type 0} → Result X Refused → Result X TextRefusal
 as_text (Ok x) = Ok x
 as_text (Err why) = Err (refused why)
+
+abbrev pub as_misfit : {X : Type 0} → Result X SpaceFault → Result X TextRefusal
+as_misfit (Ok x) = Ok x
+as_misfit (Err why) = Err (misfit why)
 
 -- no character is missing, or the first missing one refuses the text
 abbrev pub none_missing : List ℕ → Result (List ℕ) TextRefusal

@@ -14,7 +14,7 @@ use Rattle.tt_render_settings.specs.declared.budget.Found.{Found}
 use Rattle.tt_render_settings.specs.declared.budget.Found.TheVariants as found
 use Rattle.tt_render_texts.specs.declared.lines.LineReader.{LineReader}
 use Rattle.tt_render_texts.specs.LineReading.{BeginsLong, LosesFirst, LosesLine, line_at}
-use Rattle.tt_render_settings.specs.Lines.{Drawing, Outlet, drawn_from, line_drawn, lines_budget, lines_limit, stream, text_drawn, tried}
+use Rattle.tt_render_settings.specs.Lines.{Drawing, Outlet, cost_refused, drawn_from, line_drawn, lines_budget, lines_limit, stream, text_drawn, tried}
 use Rattle.tt_render_texts.specs.Lines.{line_limit, lines_of}
 use Rattle.tt_render_texts.specs.streams.Traffic.{Traffic, SendsAll, ReadsNothing, ReadsToEnd, WritesNothing, WriterServes, WriterFails}
 use Rattle.tt_render_texts.specs.Printing.{Errors, Prints, PrintsNothing}
@@ -23,7 +23,7 @@ use Rattle.tt_render_texts.specs.Reports.{told_of}
 use Rattle.tt_render_texts.specs.TextsMessages.{texts_line_of}
 use Rattle.tt_render_settings.specs.Settings.{job_by, setting_tested, strike_of}
 use Rattle.tt_render_texts.specs.Answers.{TextAnswer}
-use Rattle.tt_render_settings.specs.Texts.{TextRefusal, missing, not_utf8, refused, text_answer}
+use Rattle.tt_render_settings.specs.Texts.{TextRefusal, misfit, missing, not_utf8, refused, text_answer}
 use Rattle.tt_render_texts.specs.Views.{before_lines}
 use Rattle.tt_strike.specs.Job.{tested}
 use Rattle.tt_strike.specs.Refusals.{Refused, font, job, large}
@@ -33,15 +33,25 @@ use Rattle.tt_strike.specs.Strikes.{Strike}
 abbrev pub told : Refusal → Option TextRefusal
 told (reason.Font f) = Some (refused (font f))
 told (reason.Job j) = Some (refused (job j))
+told (reason.Space f) = Some (misfit f)
 told reason.NotUtf8 = Some not_utf8
 told (reason.Missing c) = Some (missing c)
 told why = None
+
+-- what a line with this refusal takes of the budget
+abbrev pub cost_told : Option TextRefusal → ℕ
+cost_told None = 0
+cost_told (Some why) = cost_refused why
+
+abbrev pub refused_cost : Refusal → ℕ
+refused_cost why = cost_told (told why)
 
 -- the refusal of a call, for that of a text
 abbrev pub refusal_by : TextRefusal → Refusal
 refusal_by (refused (font f)) = reason.Font f
 refusal_by (refused (job j)) = reason.Job j
 refusal_by (refused large) = reason.FontLarge
+refusal_by (misfit f) = reason.Space f
 refusal_by not_utf8 = reason.NotUtf8
 refusal_by (missing c) = reason.Missing c
 
@@ -52,6 +62,7 @@ line_fault number why = record { line = Some number; refusal = refusal_by why }
 -- a refusal of a line alone
 abbrev pub is_passed : Refusal → Bool
 is_passed (reason.Job j) = true
+is_passed (reason.Space f) = true
 is_passed reason.NotUtf8 = true
 is_passed (reason.Missing c) = true
 is_passed why = false

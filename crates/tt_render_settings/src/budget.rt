@@ -1,10 +1,10 @@
 //! The next line of a text, and what the lines of a call may take.
 
-ghost use Rattle.std.specs.Prelude.{◌≡◌, ◌<◌, true, false, length, Some, IfErr, IfOk, OnOk};
+ghost use Rattle.std.specs.Prelude.{◌≡◌, ◌<◌, ◌≤◌, true, false, length, Some, IfErr, IfOk, OnOk};
 ghost use Rattle.tt_core.specs.declared.fault.JobFault.TheVariants as fault;
 ghost use Rattle.tt_render_settings.specs.declared.budget.Found.TheVariants as found;
 ghost use Rattle.tt_render_settings.specs.Lines.{lines_budget};
-ghost use Rattle.tt_render_settings.specs.TextsOutcome.{FailsByStop, FindsLine, IsPassFault, earlier, goes_on};
+ghost use Rattle.tt_render_settings.specs.TextsOutcome.{FailsByStop, FindsLine, IsPassFault, earlier, goes_on, refused_cost};
 ghost use Rattle.tt_render_texts.specs.LineReading.{LosesFirst, held, text_left};
 
 use tt_core::{JobFault, Source};
@@ -85,7 +85,9 @@ pub fn goes_on(keep_going: bool, why: Refusal) -> bool
     ensures { result ≡ goes_on keep_going why }
 {
     match why {
-        Refusal::Job(_) | Refusal::NotUtf8 | Refusal::Missing(_) => keep_going,
+        Refusal::Job(_) | Refusal::Space(_) | Refusal::NotUtf8 | Refusal::Missing(_) => {
+            keep_going
+        }
         Refusal::Font(_)
         | Refusal::FontRead
         | Refusal::FontLarge
@@ -94,6 +96,35 @@ pub fn goes_on(keep_going: bool, why: Refusal) -> bool
         | Refusal::Write { .. }
         | Refusal::Many
         | Refusal::Memory => false,
+    }
+}
+
+/// What a line with this refusal takes of the budget of a call, where the lines behind it are drawn: as much as a line takes
+/// at most that is drawn, where it is too much work; else nothing.
+pub fn refused_cost(why: Refusal) -> u128
+    ensures exact { result ≡ refused_cost why }
+    ensures bound { result ≤ 52000000 }
+{
+    match why {
+        Refusal::Job(job) => match job {
+            JobFault::WorkLarge => 52_000_000,
+            JobFault::SizeRange
+            | JobFault::TextLong
+            | JobFault::EmptyPicture
+            | JobFault::PictureLarge
+            | JobFault::MarginRange => 0,
+        },
+        Refusal::Font(_)
+        | Refusal::Space(_)
+        | Refusal::NotUtf8
+        | Refusal::Missing(_)
+        | Refusal::FontRead
+        | Refusal::FontLarge
+        | Refusal::Read
+        | Refusal::Create
+        | Refusal::Write { .. }
+        | Refusal::Many
+        | Refusal::Memory => 0,
     }
 }
 

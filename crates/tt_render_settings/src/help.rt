@@ -1,15 +1,16 @@
 //! The second line about a refused label: what a person can do.
 
 ghost use Rattle.std.specs.Prelude.{◌≡◌, string_bytes, IfOk};
-ghost use Rattle.tt_render_settings.specs.Help.{fixed_help, folder_help, job_help, label_help, label_lines_of};
+ghost use Rattle.tt_render_settings.specs.Help.{fixed_help, folder_help, job_help, label_help, label_lines_of, space_help, space_words};
 ghost use Rattle.tt_advice.specs.Notes.{hint_told};
 
 use crate::label::Label;
 use crate::setting::Setting;
+use crate::space::Space;
 use std::alloc::{AllocError, Global};
 use tt_advice::{FixedHint, Hint, hint_line};
 use tt_core::JobFault;
-use tt_render_texts::{Messages, Refusal, TextsFault, named_line, texts_line};
+use tt_render_texts::{Messages, Refusal, SpaceFault, TextsFault, named_line, texts_line};
 
 /// The line about the font's file, if there is a hint. Error: memory ran out.
 fn font_help(alloc: Global, path: &str, hint: Option<Hint>) -> Result<String, AllocError>
@@ -66,6 +67,33 @@ fn job_help(about: Messages, job: JobFault, setting: &Setting) -> Result<String,
     }
 }
 
+/// The space that is asked for, as on the command line.
+fn space_words(alloc: Global, space: Space) -> Result<String, AllocError>
+    ensures { IfOk result (λ text. string_bytes text ≡ space_words space) }
+{
+    match space {
+        Space::Free => Ok(String::new(alloc)),
+        Space::Width(width) => format!(in alloc; "{width}"),
+    }
+}
+
+/// The line about a refused space.
+fn space_help(about: Messages, fault: SpaceFault, space: Space) -> Result<String, AllocError>
+    ensures { IfOk result (λ text. string_bytes text ≡ space_help about.number fault space) }
+{
+    let head = about.head()?;
+    let words = space_words(about.alloc, space)?;
+    match fault {
+        SpaceFault::WidthRange => format!(in about.alloc;
+            "{head}--width is 1 to 16384 pixels and more than both margins, not {words}\n"
+        ),
+        SpaceFault::BoxRange => format!(in about.alloc;
+            "{head}--box is 1x1 to 16384x4096 pixels and more than both margins, not {words}\n"
+        ),
+        SpaceFault::BoxSmall => fixed_help(about, "the text fits into this box at no size"),
+    }
+}
+
 /// The second line on standard error after this fault of `draw_label` or `draw_labels`, with its line feed. Empty where
 /// nothing helps. `hint` is that of the call, and `folder` says whether the font's path is that of a folder. Error: memory
 /// ran out.
@@ -86,6 +114,7 @@ pub fn label_help(
         Refusal::Font(_) => font_help(alloc, asked.path, hint),
         Refusal::FontRead => folder_help(alloc, asked.path, folder),
         Refusal::Job(job) => job_help(about, job, &asked.setting),
+        Refusal::Space(fault) => space_help(about, fault, asked.space),
         Refusal::NotUtf8 => {
             fixed_help(
                 about,

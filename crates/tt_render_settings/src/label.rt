@@ -1,6 +1,7 @@
 //! How labels are drawn, and why they are not.
 
 use crate::setting::Setting;
+use crate::space::Space;
 use tt_advice::Hint;
 use tt_line::Align;
 use tt_render_texts::{PictureFormat, TextsFault};
@@ -8,11 +9,13 @@ use tt_render_texts::{PictureFormat, TextsFault};
 /// How the lines of a text are drawn in one picture for people.
 #[derive(Clone, Copy)]
 pub struct Label<'a> {
-    /// The picture is that of all lines, enlarged so that no ink is cut: the fields `grow` and `product` are not used.
+    /// The picture is that of all lines, enlarged so that no ink is cut, but for that at the sides of a given width: the fields `grow` and `product` are not used.
     /// `most` is the limit of glyphs that are cached from label to label.
     pub setting: Setting,
     /// The side at which the lines begin or end.
     pub align: Align,
+    /// The space that each picture is asked to have.
+    pub space: Space,
     /// The path of the font, as it is reported.
     pub path: &'a str,
     /// Whether a face was asked for.

@@ -2,12 +2,14 @@
 use Rattle.std.specs.Prelude.{ℕ, List, Option}
 use Rattle.tt_fit.specs.declared.programs.Fit.{Fit}
 use Rattle.tt_render_streams.specs.picture.declared.report.Unfitted.{Unfitted}
+use Rattle.tt_render_texts.specs.declared.label_reports.CutInk.{CutInk}
 use Rattle.tt_render_texts.specs.declared.label_reports.Signs.{Signs}
 
--- what is reported of a label beside its unfitted glyphs and its characters without a glyph: how it is fitted, the first
--- character of each sign, and the lines about its font
+-- what is reported of a label beside its unfitted glyphs and its characters without a glyph: how it is fitted, the columns
+-- of ink that are cut, the first character of each sign, and the lines about its font
 pub record LabelTold : Type 0 where
   pub fit : Fit
+  pub cut : CutInk
   pub signs : Signs
   pub font : List ℕ
 

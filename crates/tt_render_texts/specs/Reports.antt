@@ -1,5 +1,5 @@
 -- No part of the standard: the report of a drawn text, on standard error.
-use Rattle.std.specs.Prelude.{◌≡◌, refl, ℕ, Bool, true, ◌==◌, if◌then◌else◌, List, [], ◌∷◌, ◌++◌, length, flat_map, codes, decimal, Option, Some, None}
+use Rattle.std.specs.Prelude.{◌≡◌, refl, ℕ, Bool, true, ◌==◌, ◌&&◌, if◌then◌else◌, List, [], ◌∷◌, ◌++◌, length, flat_map, codes, decimal, Option, Some, None}
 use Rattle.std.specs.Fmt.{digits}
 use Rattle.tt_advice.specs.declared.signs.Sign.{Sign}
 use Rattle.tt_advice.specs.declared.signs.Sign.TheVariants as sign
@@ -10,6 +10,7 @@ use Rattle.tt_fit.specs.declared.programs.Fit.TheVariants as fit
 use Rattle.tt_render_streams.specs.picture.declared.report.Unfitted.{Unfitted}
 use Rattle.tt_render_streams.specs.CodePoints.{code_point}
 use Rattle.tt_render_streams.specs.Messages.{fault_words}
+use Rattle.tt_render_texts.specs.declared.label_reports.CutInk.{CutInk}
 use Rattle.tt_render_texts.specs.declared.label_reports.LabelTold.{LabelTold as ReadyTold}
 use Rattle.tt_render_texts.specs.declared.label_reports.Signs.{Signs}
 use Rattle.tt_render_texts.specs.Answers.{LabelTold, TextAnswer}
@@ -53,6 +54,29 @@ count_line number f n =
 abbrev pub count_told : Option ℕ → Fit → ℕ → List ℕ
 count_told number f n = if n == 0 then [] else count_line number f n
 
+-- so many columns
+abbrev pub columns_told : ℕ → List ℕ
+columns_told n = if n == 1 then codes "1 column" else decimal n ++ codes " columns"
+
+-- where ink is cut, and how much; a side without such ink is left out
+abbrev pub cut_sides : CutInk → List ℕ
+cut_sides c =
+    if c.right == 0 then columns_told c.left ++ codes " at the left"
+    else if c.left == 0 then columns_told c.right ++ codes " at the right"
+    else columns_told c.left ++ (codes " at the left and " ++ (columns_told c.right ++ codes " at the right"))
+
+-- a line for ink that is cut, if there is any
+abbrev pub cut_line : Option ℕ → CutInk → List ℕ
+cut_line number c =
+    head_of number ++ (codes "ink is cut: " ++ (cut_sides c ++ codes "; --margin or a greater --width shows it\n"))
+
+abbrev pub cut_told : Option ℕ → CutInk → List ℕ
+cut_told number c = if c.left == 0 && c.right == 0 then [] else cut_line number c
+
+-- no ink is cut
+abbrev pub nothing_cut : CutInk
+nothing_cut = record { left = 0; right = 0 }
+
 -- what is reported of a character with a sign, behind its code point
 unfoldable pub sign_words : Sign → ℕ → List ℕ
 sign_words sign.Control c =
@@ -86,16 +110,16 @@ is_first (Some number) = number == 1
 abbrev pub font_told : Option ℕ → List ℕ → List ℕ
 font_told number lines = if is_first number then lines else []
 
--- the report of a label: so many unfitted glyphs, its characters without a glyph, the first character of each sign, and
--- the lines about its font
+-- the report of a label: so many unfitted glyphs, its characters without a glyph, ink that is cut, the first character of
+-- each sign, and the lines about its font
 unfoldable pub label_report_of : Option ℕ → LabelTold → ℕ → List ℕ → List ℕ
 label_report_of number t unfitted lacking =
     count_told number t.fit unfitted ++ (flat_map (lacking_told number) lacking
-    ++ (signs_told number t.signs ++ font_told number t.font))
+    ++ (cut_told number t.cut ++ (signs_told number t.signs ++ font_told number t.font)))
 
 -- the reported parts of a label that is ready to be written
 abbrev pub told_view : ReadyTold → LabelTold
-told_view t = record { fit = t.fit; signs = t.signs; font = t.font.now }
+told_view t = record { fit = t.fit; cut = t.cut; signs = t.signs; font = t.font.now }
 
 -- the report of an answer
 abbrev pub told_with : Option LabelTold → Option ℕ → List Unfitted → List ℕ → List ℕ
@@ -113,6 +137,24 @@ one_unfitted = refl
 many_unfitted : count_told None fit.Fallback 12 ≡ codes "tt_render: 12 glyphs are not fitted; draw --fit fallback names them\n"
 unfolding digits
 many_unfitted = refl
+
+two_columns_at_the_left : cut_told None (record { left = 2; right = 0 })
+    ≡ codes "tt_render: ink is cut: 2 columns at the left; --margin or a greater --width shows it\n"
+unfolding digits
+two_columns_at_the_left = refl
+
+one_column_at_the_right : cut_told (Some 7) (record { left = 0; right = 1 })
+    ≡ codes "tt_render: line 7: ink is cut: 1 column at the right; --margin or a greater --width shows it\n"
+unfolding digits
+one_column_at_the_right = refl
+
+columns_at_both_sides : cut_told None (record { left = 1; right = 12 })
+    ≡ codes "tt_render: ink is cut: 1 column at the left and 12 columns at the right; --margin or a greater --width shows it\n"
+unfolding digits
+columns_at_both_sides = refl
+
+no_column : cut_told None nothing_cut ≡ []
+no_column = refl
 
 a_tab : sign_told (Some 2) sign.Control (Some 9)
     ≡ codes "tt_render: line 2: U+0009 is a tab, and drawn as the font has it; expand(1) makes blanks of tabs\n"

@@ -7,12 +7,15 @@ use Rattle.tt_core.specs.Faults.{fault_at, job_name, job_number, why_name, why_n
 use Rattle.tt_render_texts.specs.declared.refusal.Refusal.{Refusal}
 use Rattle.tt_render_texts.specs.declared.refusal.Refusal.TheVariants as reason
 use Rattle.tt_render_texts.specs.declared.refusal.TextsFault.{TextsFault}
+use Rattle.tt_render_texts.specs.declared.space_fault.SpaceFault.{SpaceFault}
+use Rattle.tt_render_texts.specs.declared.space_fault.SpaceFault.TheVariants as space
 use Rattle.tt_render_streams.specs.Messages.{fault_words, job_words, missing_words}
 use Rattle.tt_render_texts.specs.Reports.{head_of}
 
 abbrev pub refusal_status_of : Refusal → ℕ
 refusal_status_of (reason.Font f) = 1
 refusal_status_of (reason.Job j) = 2
+refusal_status_of (reason.Space f) = 2
 refusal_status_of reason.NotUtf8 = 2
 refusal_status_of (reason.Missing c) = 2
 refusal_status_of reason.FontRead = 3
@@ -35,10 +38,26 @@ named_line_of reason.Many line = None
 named_line_of reason.Memory line = None
 named_line_of why line = line
 
+-- the number and the name of a label's refusal by its width or its box
+abbrev pub space_number : SpaceFault → ℕ
+space_number space.WidthRange = 69
+space_number space.BoxRange = 70
+space_number space.BoxSmall = 71
+
+abbrev pub space_name : SpaceFault → List ℕ
+space_name space.WidthRange = codes "WidthRange"
+space_name space.BoxRange = codes "BoxRange"
+space_name space.BoxSmall = codes "BoxSmall"
+
+-- `<number> <name>`
+abbrev pub space_words : SpaceFault → List ℕ
+space_words f = decimal (space_number f) ++ (codes " " ++ space_name f)
+
 -- why a call stopped, after the head of its line
 abbrev pub refusal_words : Refusal → List ℕ
 refusal_words (reason.Font f) = fault_words f
 refusal_words (reason.Job j) = job_words j
+refusal_words (reason.Space f) = space_words f
 refusal_words reason.NotUtf8 = codes "not UTF-8"
 refusal_words (reason.Missing c) = missing_words c
 refusal_words reason.FontRead = codes "cannot read the font"
@@ -62,6 +81,21 @@ a_line_with_a_broken_glyph : texts_line_of (record { line = Some 3; refusal = re
     ≡ codes "tt_render: line 3: glyf+14: 14 GlyphShort"
 unfolding digits why_number why_name
 a_line_with_a_broken_glyph = refl
+
+the_width_is_out_of_range : texts_line_of (record { line = None; refusal = reason.Space space.WidthRange })
+    ≡ codes "tt_render: 69 WidthRange"
+unfolding digits
+the_width_is_out_of_range = refl
+
+the_box_is_out_of_range : texts_line_of (record { line = None; refusal = reason.Space space.BoxRange })
+    ≡ codes "tt_render: 70 BoxRange"
+unfolding digits
+the_box_is_out_of_range = refl
+
+a_line_fits_at_no_size : texts_line_of (record { line = Some 2; refusal = reason.Space space.BoxSmall })
+    ≡ codes "tt_render: line 2: 71 BoxSmall"
+unfolding digits
+a_line_fits_at_no_size = refl
 
 the_one_text_lacks_a_glyph : texts_line_of (record { line = None; refusal = reason.Missing 0x4E2D })
     ≡ codes "tt_render: U+4E2D has no glyph"

@@ -1,7 +1,7 @@
 //! The report of a label that was drawn.
 
 ghost use Rattle.std.specs.Prelude.{◌≡◌, ◌++◌, string_bytes, IfOk, OnOk};
-ghost use Rattle.tt_render_texts.specs.Reports.{count_line, count_told, fit_name, font_told, is_first, label_report_of, sign_line, sign_told, sign_words, signs_told, told_view};
+ghost use Rattle.tt_render_texts.specs.Reports.{columns_told, count_line, count_told, cut_line, cut_sides, cut_told, fit_name, font_told, is_first, label_report_of, sign_line, sign_told, sign_words, signs_told, told_view};
 
 use crate::texts_messages::Messages;
 use std::alloc::AllocError;
@@ -17,10 +17,18 @@ pub struct Signs {
     pub joining: Option<char>,
 }
 
+/// How many columns of a label's ink its picture lacks at each side.
+#[derive(Clone, Copy, Debug, PartialEq, Eq)]
+pub struct CutInk {
+    pub left: u64,
+    pub right: u64,
+}
+
 /// What is reported of a label beside its unfitted glyphs and its characters without a glyph.
 #[derive(Clone, Copy)]
 pub struct LabelTold<'a> {
     pub fit: Fit,
+    pub cut: CutInk,
     pub signs: Signs,
     /// The lines about the font, for the first picture of a call.
     pub font: &'a str,
@@ -62,7 +70,7 @@ const SHAPED: &str = "is of a script whose letters take other forms beside each 
 
 impl Messages {
     /// The report of a label. A line, with its line feed: for its unfitted glyphs; for each character without a glyph;
-    /// for the first character of each sign. Behind the first picture of a call come the lines about the font.
+    /// for ink that is cut; for the first character of each sign. Behind the first picture of a call come the lines about the font.
     #[tactic(auto, unfolding(crate::specs::Reports::label_report_of))]
     pub fn label_report(
         self,
@@ -75,6 +83,7 @@ impl Messages {
         let mut text = String::new(self.alloc);
         self.push_count(&mut text, told.fit, unfitted)?;
         self.push_lacking(&mut text, lacking)?;
+        self.push_cut(&mut text, told.cut)?;
         self.push_signs(&mut text, told.signs)?;
         self.push_font(&mut text, told.font)?;
         Ok(text)
@@ -101,6 +110,51 @@ impl Messages {
             format!(in self.alloc;
                 "{head}{unfitted} glyphs are not fitted; draw --fit {name} names them\n"
             )
+        }
+    }
+
+    /// Appends a line for ink that is cut, if there is any.
+    fn push_cut(self, text: &mut String, cut: CutInk) -> Result<(), AllocError>
+        ensures { OnOk result (string_bytes text.new ≡ string_bytes text.old ++ cut_told self.number cut) }
+    {
+        if cut.left == 0 && cut.right == 0 {
+            return Ok(());
+        }
+        text.push_str(&self.cut_line(cut)?)
+    }
+
+    fn cut_line(self, cut: CutInk) -> Result<String, AllocError>
+        ensures { IfOk result (λ text. string_bytes text ≡ cut_line self.number cut) }
+    {
+        let head = self.head()?;
+        let sides = self.cut_sides(cut)?;
+        format!(in self.alloc;
+            "{head}ink is cut: {sides}; --margin or a greater --width shows it\n"
+        )
+    }
+
+    /// Where ink is cut, and how much; a side without such ink is left out.
+    fn cut_sides(self, cut: CutInk) -> Result<String, AllocError>
+        ensures { IfOk result (λ text. string_bytes text ≡ cut_sides cut) }
+    {
+        let left = self.columns(cut.left)?;
+        let right = self.columns(cut.right)?;
+        if cut.right == 0 {
+            format!(in self.alloc; "{left} at the left")
+        } else if cut.left == 0 {
+            format!(in self.alloc; "{right} at the right")
+        } else {
+            format!(in self.alloc; "{left} at the left and {right} at the right")
+        }
+    }
+
+    fn columns(self, count: u64) -> Result<String, AllocError>
+        ensures { IfOk result (λ text. string_bytes text ≡ columns_told count) }
+    {
+        if count == 1 {
+            String::from_str(self.alloc, "1 column")
+        } else {
+            format!(in self.alloc; "{count} columns")
         }
     }
 

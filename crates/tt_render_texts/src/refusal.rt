@@ -4,6 +4,7 @@ ghost use Rattle.std.specs.Prelude.{◌≡◌};
 ghost use Rattle.tt_render_texts.specs.declared.refusal.Refusal.TheVariants as reason;
 ghost use Rattle.tt_render_texts.specs.Views.{before_lines, refusal_of_draw, refusal_of_put, refusal_of_run};
 
+use crate::space_fault::SpaceFault;
 use std::alloc::AllocError;
 use thiserror::Error;
 use tt_core::{DrawFault, Fault, JobFault};
@@ -18,6 +19,9 @@ pub enum Refusal {
     /// The size or the margin is out of range, or the text cannot be drawn.
     #[error("{0}")]
     Job(JobFault),
+    /// The label does not stand in the width or the box that is asked for.
+    #[error("{0}")]
+    Space(SpaceFault),
     /// The text is not UTF-8.
     #[error("the text is not UTF-8")]
     NotUtf8,
@@ -121,6 +125,14 @@ impl From<JobFault> for TextsFault {
 
     fn from(fault: JobFault) -> TextsFault {
         texts_fault(None, Refusal::Job(fault))
+    }
+}
+
+impl From<SpaceFault> for TextsFault {
+    ghost from_gives = { λ f e. e ≡ before_lines (reason.Space f) };
+
+    fn from(fault: SpaceFault) -> TextsFault {
+        texts_fault(None, Refusal::Space(fault))
     }
 }
 

@@ -14,7 +14,11 @@ pub fn texts_status(fault: &TextsFault) -> u8
 {
     match fault.refusal {
         Refusal::Font(_) => 1,
-        Refusal::Job(_) | Refusal::NotUtf8 | Refusal::Missing(_) | Refusal::Many => 2,
+        Refusal::Job(_)
+        | Refusal::Space(_)
+        | Refusal::NotUtf8
+        | Refusal::Missing(_)
+        | Refusal::Many => 2,
         Refusal::FontRead | Refusal::FontLarge | Refusal::Read => 3,
         Refusal::Create | Refusal::Write { .. } => 4,
         Refusal::Memory => 5,
@@ -30,6 +34,7 @@ pub fn named_line(fault: &TextsFault) -> Option<u32>
             None,
         Refusal::Font(_)
         | Refusal::Job(_)
+        | Refusal::Space(_)
         | Refusal::NotUtf8
         | Refusal::Missing(_)
         | Refusal::Create
@@ -57,6 +62,11 @@ pub fn texts_line(alloc: Global, fault: &TextsFault) -> Result<String, AllocErro
         Refusal::Job(job) => {
             let code = job.number();
             let name = job.name();
+            format!(in alloc; "{head}{code} {name}")
+        }
+        Refusal::Space(space) => {
+            let code = space.number();
+            let name = space.name();
             format!(in alloc; "{head}{code} {name}")
         }
         Refusal::NotUtf8 => format!(in alloc; "{head}not UTF-8"),

@@ -38,7 +38,7 @@ use Rattle.tt_render_texts.specs.Printing.{Errors}
 use Rattle.tt_run_laws.specs.RunLaws.{GivesAsRun, PlainCallsAreRuns, PlainReportsAreRuns, PlainTextsAreRuns, bytes_of}
 use Rattle.tt_render_settings.specs.Settings.{IsPlain, job_by, strike_by, strike_of}
 use Rattle.tt_render_texts.specs.Answers.{TextAnswer}
-use Rattle.tt_render_settings.specs.Texts.{TextRefusal, answer_of, as_text, missing, missing_tested, not_utf8, refused, text_answer}
+use Rattle.tt_render_settings.specs.Texts.{TextRefusal, answer_of, as_text, misfit, missing, missing_tested, not_utf8, refused, text_answer}
 use Rattle.tt_render_settings.specs.Lines.{stream}
 use Rattle.tt_render_settings.specs.TextsOutcome.{IsSilent, StopsAtFont, StopsFor, TextFails, TextGives, reader_in, told}
 use Rattle.tt_render_settings.proofs.DefectLines.{if_some_more}
@@ -210,6 +210,7 @@ before_text a text (reason.Font f) None t e (good, file, read, bad) silent =
     (run.Font f, refl, (good, refuses, (read.1, read.2), silent.0))
 before_text a text reason.Memory None t e (good, begun) silent = (run.Memory, refl, (good, begun, silent.0))
 before_text a text reason.NotUtf8 None t e stops silent = absurd stops
+before_text a text (reason.Space wrong) None t e stops silent = absurd stops
 before_text a text (reason.Missing c) None t e stops silent = absurd stops
 before_text a text reason.Read None t e stops silent = absurd stops
 before_text a text reason.Create None t e stops silent = absurd stops
@@ -221,6 +222,7 @@ before_text a text reason.FontLarge (Some n) t e stops silent = absurd stops
 before_text a text (reason.Font f) (Some n) t e stops silent = absurd stops
 before_text a text reason.Memory (Some n) t e stops silent = absurd stops
 before_text a text reason.NotUtf8 (Some n) t e stops silent = absurd stops
+before_text a text (reason.Space wrong) (Some n) t e stops silent = absurd stops
 before_text a text (reason.Missing c) (Some n) t e stops silent = absurd stops
 before_text a text reason.Read (Some n) t e stops silent = absurd stops
 before_text a text reason.Create (Some n) t e stops silent = absurd stops
@@ -273,6 +275,9 @@ at_text a text file s (reason.Job j) None t e by (r, tells, is, silent) =
 at_text a text file s reason.NotUtf8 None t e by (r, tells, is, silent) =
     let same = told_once reason.NotUtf8 r not_utf8 refl tells in
     absurd (never a text file s t not_utf8 by (λ e. λ same. cc) (rw (← same) is))
+at_text a text file s (reason.Space wrong) None t e by (r, tells, is, silent) =
+    let same = told_once (reason.Space wrong) r (misfit wrong) refl tells in
+    absurd (never a text file s t (misfit wrong) by (λ e. λ same. cc) (rw (← same) is))
 at_text a text file s (reason.Missing c) None t e by (r, tells, is, silent) =
     let same = told_once (reason.Missing c) r (missing c) refl tells in
     absurd (never a text file s t (missing c) by (λ e. λ same. cc) (rw (← same) is))
@@ -286,6 +291,7 @@ at_text a text file s (reason.Write sent) (Some n) t e by fails = absurd fails
 at_text a text file s (reason.Font f) (Some n) t e by fails = absurd fails
 at_text a text file s (reason.Job j) (Some n) t e by fails = absurd fails
 at_text a text file s reason.NotUtf8 (Some n) t e by fails = absurd fails
+at_text a text file s (reason.Space wrong) (Some n) t e by fails = absurd fails
 at_text a text file s (reason.Missing c) (Some n) t e by fails = absurd fails
 at_text a text file s reason.FontRead (Some n) t e by fails = absurd fails
 at_text a text file s reason.FontLarge (Some n) t e by fails = absurd fails

@@ -10,7 +10,7 @@ use Rattle.tt_render_settings.specs.Lines.{lines_limit, places}
 use Rattle.tt_render_settings.specs.LinesDefects.{IsDefectBy}
 use Rattle.tt_render_streams.specs.Traffic.{traffic_of}
 use Rattle.tt_render_texts.specs.Printing.{errors_of}
-use Rattle.tt_render_settings.specs.TextsOutcome.{earlier, refusal_font_fault}
+use Rattle.tt_render_settings.specs.TextsOutcome.{earlier, refusal_font_fault, refused_cost}
 use Rattle.tt_render_settings.proofs.DefectLines.{next_tells, stop_tells}
 use Rattle.tt_render_settings.proofs.DrawnLines.{PrintedBehind, all_drawn, drawn_too, earlier_none, is_drawn, kept_alone, many_sent, none_so_far, one_more, reader_at_end, some_sent, tried_enough, whole_text}
 use Rattle.tt_render_settings.proofs.PassedOver.{goes_keeps, passed_on, passes_asked, refused_stops, tells_asked, tells_passing, unbegun, undrawn}
@@ -109,13 +109,14 @@ loop-before-preserved-in-Ok-Refused g c =
     c.in-Ok-Refused.why found.0 in
     let passed = rw c.texts_fault-fault.ensures at c.in_ok-first-in-Ok-Refused.ensures in
     let goes = passed.goes in
+    let cost : c.refused_cost.result ≡ refused_cost why = c.refused_cost.ensures.exact in
     record {
       strike = so_far.strike;
       reads = c.in-Ok-Refused.ensures.failure;
-      few = omega (arith, so_far.few);
+      few = omega (arith, so_far.few, c.refused_cost.ensures.bound);
       writes = so_far.writes;
       passes = λ none. absurd (passes_asked d keeps (label_told_of l) why refl goes none);
-      so_far = rw passed.first (passed_on d keeps (λ fault. label_lines_of l false fault None) (left c.args.lines.now) rest after
+      so_far = rw (passed.first, cost) (passed_on d keeps (λ fault. label_lines_of l false fault None) (left c.args.lines.now) rest after
           (g.P.Pictures.written c.args.out.now) (g.P.Pictures.written c.loop-before.out) (told c.args.error.now)
           (record { before = told c.loop-before.error; after = told c.pass.new.error; failed = failed c.loop-before.error; now = failed c.pass.new.error })
           c.loop-before.before c.loop-before.used c.loop-before.first why refl goes so_far.so_far (found.1 (goes_keeps keeps why goes)) begins passed.told);
@@ -170,7 +171,7 @@ returns-in_err-first-in-Err-draw_line-clause-outcome g c =
 
 pub returns-in_err-first-in-Err-draw_line-clause-defects :
     goal.returns-in_err-first-in-Err-draw_line-clause-defects
-returns-in_err-first-in-Err-draw_line-clause-defects g c =
+returns-in_err-first-in-Err-draw_line-clause-defects g c = λ free.
     let so_far = c.loop-before.invariant in
     let l = c.args.asked.now in
     let a = l.setting in
@@ -182,7 +183,7 @@ returns-in_err-first-in-Err-draw_line-clause-defects g c =
     let why = c.in-Err-draw_line.refused.refusal in
     let found = rw c.in-Ok-Line.field-0-is at c.in-Ok-Line.ensures.outcome in
     let Tells : Strike → Type 0 = λ s. IfSome (refusal_font_fault why) (IsDefectBy composed_glyphs a s line) in
-    let is = subst Tells so_far.strike (rw c.line-line.ensures at c.in-Err-draw_line.ensures.defects) in
+    let is = subst Tells so_far.strike (rw c.line-line.ensures at (c.in-Err-draw_line.ensures.defects free)) in
     let IsOne = IsDefectBy composed_glyphs a c.args.strike.now in
     let p = err_from_is_err_and c.from_residual-in_err-first-in-Err-draw_line.result
     c.from_residual-in_err-first-in-Err-draw_line.ensures.1 in
@@ -215,14 +216,15 @@ loop-before-preserved-in-Err-draw_line g c =
     same found.0 found.2 is in
     let passed = rw c.texts_fault-fault-in-Err-draw_line.ensures at c.in_ok-first-in-Err-draw_line.ensures in
     let goes = passed.goes in
+    let cost : c.refused_cost-in-Err-draw_line.result ≡ refused_cost why = c.refused_cost-in-Err-draw_line.ensures.exact in
     record {
       strike = kept_alone c.args.strike.now c.loop-before.strike c.draw_line.new.strike so_far.strike
           c.in-Err-draw_line.ensures.same;
       reads = c.in-Ok-Line.ensures.failure;
-      few = omega (arith, so_far.few);
+      few = omega (arith, so_far.few, c.refused_cost-in-Err-draw_line.ensures.bound);
       writes = so_far.writes;
       passes = λ none. absurd (passes_asked d keeps (label_told_of l) why refl goes none);
-      so_far = rw passed.first (passed_on d keeps (λ fault. label_lines_of l false fault None) (left c.args.lines.now) rest after
+      so_far = rw (passed.first, cost) (passed_on d keeps (λ fault. label_lines_of l false fault None) (left c.args.lines.now) rest after
           (g.P.Pictures.written c.args.out.now) (g.P.Pictures.written c.loop-before.out) (told c.args.error.now)
           (record { before = told c.loop-before.error; after = told c.pass-in-Err-draw_line.new.error; failed = failed c.loop-before.error; now = failed c.pass-in-Err-draw_line.new.error })
           c.loop-before.before c.loop-before.used c.loop-before.first why refl goes so_far.so_far (line, found.0) begins

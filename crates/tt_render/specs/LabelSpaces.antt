@@ -1,0 +1,71 @@
+-- No part of the standard: the picture of a text as a label in the space that is asked for, by a font at a size (profile).
+use Rattle.std.specs.Prelude.{◌≡◌, ℕ, List, Some, None, Result, Ok, Err}
+use Rattle.tt_core.specs.Outcomes.{◌>>=◌}
+use Rattle.tt_face.specs.Faces.{Face}
+use Rattle.tt_label.specs.Gathered.{gathered, units_glyphs}
+use Rattle.tt_label.specs.Label.{label_cost, label_outcome, label_report}
+use Rattle.tt_label.specs.Widths.{CutImage, width_outcome}
+use Rattle.tt_line.specs.declared.align.Align.{Align}
+use Rattle.tt_render.specs.declared.label_spaces.CutLabel.{CutLabel}
+use Rattle.tt_render_settings.specs.declared.label.Label.{Label}
+use Rattle.tt_render_settings.specs.declared.space.Space.{Space}
+use Rattle.tt_render_settings.specs.declared.space.Space.TheVariants as space
+use Rattle.tt_render_settings.specs.Spaces.{refused_space, space_tested}
+use Rattle.tt_render_settings.specs.Texts.{TextRefusal, as_misfit, as_text}
+use Rattle.tt_render_texts.specs.declared.label_reports.CutInk.{CutInk}
+use Rattle.tt_render_texts.specs.declared.refusal.Refusal.TheVariants as reason
+use Rattle.tt_render_texts.specs.declared.refusal.TextsFault.{TextsFault}
+use Rattle.tt_render_texts.specs.declared.space_fault.SpaceFault.{SpaceFault}
+use Rattle.tt_render_texts.specs.Views.{before_lines}
+use Rattle.tt_render_streams.specs.picture.declared.report.Unfitted.{Unfitted}
+use Rattle.tt_render_streams.specs.picture.Pictures.{Image, image_of}
+use Rattle.tt_strike.specs.Costs.{line_cost}
+use Rattle.tt_strike.specs.Job.{Job}
+use Rattle.tt_strike.specs.Refusals.{Refused}
+use Rattle.tt_strike.specs.Report.{line_report}
+use Rattle.tt_strike.specs.Strikes.{Strike, job_of}
+
+-- a picture that lacks no ink, and the columns of ink that a picture lacks
+abbrev pub whole_image : Image → CutImage
+whole_image i = record { shown = i; left = 0; right = 0 }
+
+abbrev pub cut_of : CutImage → CutInk
+cut_of i = record { left = i.left; right = i.right }
+
+abbrev pub cut_view : CutLabel → CutImage
+cut_view l = record { shown = image_of l.picture; left = l.cut.left; right = l.cut.right }
+
+-- the picture of a text in a space, by a font's tables, or the first refusal
+abbrev pub image_in : Space → Face → Job → Align → Result CutImage Refused
+image_in space.Free face a how = label_outcome face a how >>= λ i. Ok (whole_image i)
+image_in (space.Width n) face a how = width_outcome face a how n
+
+-- the unfitted glyphs of that picture, and what it takes of the budget of a call of many lines. Rows in a width are those
+-- of the glyphs of the whole text
+abbrev pub report_in : Space → Face → Job → Align → Result (List Unfitted) Refused
+report_in space.Free face a how = label_report face a how
+report_in (space.Width n) face a how = line_report face a (gathered (units_glyphs face a))
+
+abbrev pub cost_in : Space → Face → Job → Align → Result ℕ Refused
+cost_in space.Free face a how = label_cost face a how
+cost_in (space.Width n) face a how = line_cost face a (gathered (units_glyphs face a))
+
+-- the picture of a text as this label: its space is tested first
+unfoldable pub label_image : Label → Strike → List ℕ → Result CutImage TextRefusal
+label_image l s text =
+    as_misfit (space_tested l.space l.setting.margin) >>= λ u.
+    as_text (image_in l.space s.face (job_of s text l.setting.margin) l.align)
+
+-- a claim about the defects of a font, of labels that have the space that they need. Of rows in a width nothing is claimed
+-- but what their definition says
+abbrev pub ClaimsIfFree : Space → Type 0 → Type 0
+ClaimsIfFree s Claim = s ≡ space.Free → Claim
+
+-- the space of a label is refused, and its size and its margin are not
+abbrev pub IsMisfit : {V : Type 0} → Label → Result V TextsFault → Type 0
+IsMisfit l r =
+    (f : SpaceFault) × (refused_space l.setting l.space ≡ Some f) × (r ≡ Err (before_lines (reason.Space f)))
+
+-- it is not refused, or they are refused before
+abbrev pub HasSpace : Label → Type 0
+HasSpace l = refused_space l.setting l.space ≡ None

@@ -1,0 +1,78 @@
+-- No part of the standard: the space that a label is asked to have, and its test (profile). The test stands behind those
+-- of the size and of the margin, and before that of the text.
+use Rattle.std.specs.Prelude.{◌≡◌, refl, ℕ, ◌*◌, ◌||◌, nat_le, nat_lt, if◌then◌else◌, Option, Some, None, Result, Ok, Err, ⊤}
+use Rattle.tt_core.specs.declared.collection.Reading.TheVariants as reading
+use Rattle.tt_core.specs.declared.fault.JobFault.{JobFault}
+use Rattle.tt_core.specs.Limits.{width_limit}
+use Rattle.tt_face.specs.Rules.{plain_opening}
+use Rattle.tt_fit.specs.declared.programs.Fit.TheVariants as fit
+use Rattle.tt_render_settings.specs.declared.setting.Setting.{Setting}
+use Rattle.tt_render_settings.specs.declared.given.GivenSpace.{GivenSpace}
+use Rattle.tt_render_settings.specs.declared.given.GivenSpace.TheVariants as given
+use Rattle.tt_render_settings.specs.declared.space.Space.{Space}
+use Rattle.tt_render_settings.specs.declared.space.Space.TheVariants as space
+use Rattle.tt_render_settings.specs.Settings.{plain_setting, setting_tested}
+use Rattle.tt_render_texts.specs.declared.space_fault.SpaceFault.{SpaceFault}
+use Rattle.tt_render_texts.specs.declared.space_fault.SpaceFault.TheVariants as fault
+use Rattle.tt_strike.specs.Job.{margin_tested, size_tested}
+
+-- the space that the option of a width asks for
+abbrev pub space_asked : Option ℕ → Space
+space_asked None = space.Free
+space_asked (Some width) = space.Width width
+
+-- the test of a width, by the margin
+abbrev pub width_tested : ℕ → ℕ → Result (Unit {0}) SpaceFault
+width_tested width margin =
+    if nat_le width (2 * margin) || nat_lt width_limit width then Err fault.WidthRange else Ok tt
+
+-- the test of a space, by the margin
+abbrev pub space_tested : Space → ℕ → Result (Unit {0}) SpaceFault
+space_tested space.Free margin = Ok tt
+space_tested (space.Width width) margin = width_tested width margin
+
+-- the space that passed its test, and the margin by which it did
+abbrev pub given_space : GivenSpace → Space
+given_space given.Free = space.Free
+given_space (given.Width g) = space.Width g.width
+
+abbrev pub HasMargin : ℕ → GivenSpace → Type 0
+HasMargin margin given.Free = ⊤
+HasMargin margin (given.Width g) = g.margin ≡ margin
+
+-- the refusal of a second test, where the first was passed
+abbrev pub refusal_behind : Result (Unit {0}) JobFault → Result (Unit {0}) SpaceFault → Option SpaceFault
+refusal_behind (Ok u) (Err f) = Some f
+refusal_behind first second = None
+
+-- why the space of a label with a setting is refused, where the setting is not
+abbrev pub refused_space : Setting → Space → Option SpaceFault
+refused_space a s = refusal_behind (setting_tested a) (space_tested s a.margin)
+
+-- worked values: the margin counts twice
+no_column : space_tested (space.Width 0) 0 ≡ Err fault.WidthRange
+no_column = refl
+
+one_column : space_tested (space.Width 1) 0 ≡ Ok tt
+one_column = refl
+
+as_many_as_the_margins : space_tested (space.Width 20) 10 ≡ Err fault.WidthRange
+as_many_as_the_margins = refl
+
+one_more_than_the_margins : space_tested (space.Width 21) 10 ≡ Ok tt
+one_more_than_the_margins = refl
+
+the_widest : space_tested (space.Width 16384) 64 ≡ Ok tt
+the_widest = refl
+
+wider_than_the_widest : space_tested (space.Width 16385) 0 ≡ Err fault.WidthRange
+wider_than_the_widest = refl
+
+margin_before_width : refused_space (plain_setting 16 65 fit.Best (plain_opening (reading.Wide 0))) (space.Width 0) ≡ None
+unfolding setting_tested size_tested margin_tested
+margin_before_width = refl
+
+width_behind_margin : refused_space (plain_setting 16 64 fit.Best (plain_opening (reading.Wide 0))) (space.Width 0)
+    ≡ Some fault.WidthRange
+unfolding setting_tested size_tested margin_tested
+width_behind_margin = refl
