@@ -130,17 +130,16 @@ def lines_of_c(files, documents):
 
 
 def rows_of_scripts(files):
-    """Returns the scripts that tests/README.md does not name, and its rows without a script."""
+    """Returns the scripts that tests/README.md does not name, and its lines without a script."""
     scripts = {it.split("/")[1] for it in files if re.fullmatch(r"tests/\w+/run", it)}
     rows, named = set(), set()
     for block in markdown.blocks(markdown.read("tests/README.md")):
-        if block.kind == "row":
-            # The tables of programs and of words of the environment have other names than those of folders.
-            first = markdown.spans(markdown.cells(block.text)[0])
-            rows.update(it.rstrip("/") for it in first if re.fullmatch(r"(?!tt_)[a-z]\w*/?", it))
+        row = re.match(r"- `([a-z]\w*)`: ", block.text)
+        if row:
+            rows.add(row[1])
         named.update(it.split("/")[1] for it in markdown.spans(block.text) if it.startswith("tests/"))
-    faults = [f"tests/README.md has no row for tests/{it}/run" for it in sorted(scripts - rows - named)]
-    return faults + [f"tests/README.md has a row for {it}: no tests/{it}/run" for it in sorted(rows - scripts)]
+    faults = [f"tests/README.md has no line for tests/{it}/run" for it in sorted(scripts - rows - named)]
+    return faults + [f"tests/README.md has a line for {it}: no tests/{it}/run" for it in sorted(rows - scripts)]
 
 
 def limits():
