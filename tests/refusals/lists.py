@@ -11,44 +11,52 @@ OF_CALLS, OF_CALLS_DEFINED = "crates/tt_c_calls/src/answer.rt", "crates/tt_c_cal
 MESSAGES, MESSAGES_DEFINED = "crates/tt_c_calls/src/messages.rt", "crates/tt_c_calls/specs/Messages.antt"
 OF_ENTRIES, OF_ENTRIES_DEFINED = "crates/tt_c_calls/src/glyph_bitmaps.rt", "crates/tt_c_calls/specs/Bitmaps.antt"
 BOUNDS, BOUNDS_DEFINED = "crates/tt_fit/src/fallback.rt", "crates/tt_fit/specs/Fallback.antt"
+SPACES, SPACES_DEFINED = "crates/tt_render_texts/src/space_fault.rt", "crates/tt_render_texts/specs/TextsMessages.antt"
 HEADER, PAGE = "include/tt_render.h", "tt_render.1"
 CASES = "tests/rows/cases.txt"
 
 # The files that a list is in. Where one moves, its name here moves with it.
 FILES = (
     *(ENUMS, DEFINED, OF_CALLS, OF_CALLS_DEFINED, MESSAGES, MESSAGES_DEFINED, BOUNDS, BOUNDS_DEFINED),
-    *(OF_ENTRIES, OF_ENTRIES_DEFINED, HEADER, PAGE, CASES, "README.md"),
+    *(OF_ENTRIES, OF_ENTRIES_DEFINED, SPACES, SPACES_DEFINED, HEADER, PAGE, CASES, "README.md"),
 )
 # This refusal names the table that is not there.
 OF_ANY_TABLE = "NoTable"
 # The refusals that only a call of C gives, wherever they have their numbers.
 OF_C_ALONE = ("UnknownFit", "LineEnds")
 # The refusals of fonts whose instances no command draws yet, so that no case can meet them.
-OF_NO_COMMAND = ("VariationShape", "NoAxis", "NoInstance", "GlyphVariation")
+# Labels fill no box yet either.
+OF_NO_COMMAND = ("VariationShape", "NoAxis", "NoInstance", "GlyphVariation", "BoxRange", "BoxSmall")
 # The refusals that have no case in tests/rows, and where their cases are.
 ELSEWHERE = {
     "WorkLarge": "tests/work/hostile_fonts.py",
     **dict.fromkeys(OF_C_ALONE, "tests/c/edges.c"),
     "GlyphNumber": "tests/glyph_sets/cases.txt",
+    "WidthRange": "tests/printers/width.txt",
     **dict.fromkeys(("CollectionVersion", "NoFace"), "tests/faces/rows.txt"),
 }
 
 
 @dataclass
 class Known:
-    """The refusals by name: of the font's tables, of its programs, of a request, of calls of C alone, and of entries of
-    lists of glyphs."""
+    """The refusals by name: of the font's tables, of its programs, of a request, of the space of a label, of calls of C
+    alone, and of entries of lists of glyphs."""
 
     font: dict = field(default_factory=dict)
     programs: dict = field(default_factory=dict)
     request: dict = field(default_factory=dict)
+    spaces: dict = field(default_factory=dict)
     calls: dict = field(default_factory=dict)
     entries: dict = field(default_factory=dict)
     enums: dict = field(default_factory=dict)
 
     def all(self):
         """Returns the numbers of all of them."""
-        return {**self.font, **self.programs, **self.request, **self.calls, **self.entries}
+        return {**self.font, **self.programs, **self.request, **self.spaces, **self.calls, **self.entries}
+
+    def of_header(self):
+        """Returns the numbers of those that a call of C gives."""
+        return {it: number for it, number in self.all().items() if it not in self.spaces or it in self.calls}
 
     def of_files(self):
         """Returns the numbers of those of a font."""
@@ -72,6 +80,7 @@ def table(read):
     for name, numbers in known.enums.items():
         if name != "Why":
             known.request.update(numbers)
+    known.spaces = {it: int(number) for it, number in re.findall(r"SpaceFault::(\w+) => (\d+),", read(SPACES))}
     for it, number in re.findall(r"CallFault::(\w+) => plain\(\d, (\d+)\)", read(OF_CALLS)):
         if int(number) and it not in known.request:
             known.calls[it] = int(number)
@@ -107,9 +116,9 @@ def pairs(pattern, text):
 def numbers_of_enums(known):
     """No number and no name may stand twice, in whichever enum."""
     seen, faults = {}, []
-    every = [*known.enums.values(), known.calls, known.entries]
+    every = [*known.enums.values(), known.spaces, known.calls, known.entries]
     for name, number in [it for numbers in every for it in numbers.items()]:
-        if number in seen:
+        if seen.get(number, name) != name or number in seen and name not in known.spaces:
             faults.append(f"{number} is {seen[number]} and {name}")
         seen[number] = name
     if len(set(seen.values())) != len(seen):
@@ -144,7 +153,15 @@ def header(known, read):
     """The table of the header."""
     text = read(HEADER)
     found = pairs(r"^ +X\((?P<n>\d+), (?P<name>\w+)\)", text[text.index("#define TT_REFUSALS") :])
-    return compared(found, known.all(), order=True)
+    return compared(found, known.of_header(), order=True)
+
+
+def spaces_defined(known, read):
+    """The numbers and names of the refusals of a label's space in the definition."""
+    text = read(SPACES_DEFINED)
+    names = re.findall(r"^space_name space\.(\w+) = codes \"(\w+)\"$", text, re.M)
+    faults = [f"{it} has the name {other}" for it, other in names if it != other]
+    return faults + compared(pairs(r"^space_number space\.(?P<name>\w+) = (?P<n>\d+)$", text), known.spaces)
 
 
 def page(known, read):
@@ -155,7 +172,11 @@ def page(known, read):
     parts = dict(re.findall(r"^\.SS ([^\n]*)\n(.*?)(?=^\.SS|\Z)", text, re.S | re.M))
     wanted = {
         "Of a font": known.font,
-        "Of a request": {it: number for it, number in known.request.items() if it not in OF_C_ALONE},
+        "Of a request": {
+            it: number
+            for it, number in {**known.request, **known.spaces}.items()
+            if it not in (*OF_C_ALONE, *OF_NO_COMMAND)
+        },
         "Of the font's programs": known.programs,
     }
     if parts.keys() != wanted.keys():
