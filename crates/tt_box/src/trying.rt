@@ -62,7 +62,7 @@ fn begun_cost(stage: &Stage) -> u64
     ensures { (face : Face) (a : Job) (s : Fitter) → HasStage face a s stage.now → result ≡ begun_cost face a s }
 {
     match stage {
-        Stage::Fitted(_, left) => work_taken(*left),
+        Stage::Fitted(units) => work_taken(units.left),
         Stage::Made(_) => 0,
     }
 }
