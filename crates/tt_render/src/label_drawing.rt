@@ -271,10 +271,10 @@ fn draw_labels_by<R: Source, P: Pictures, E: Sink>(
             Ok(Found::Line(place)) => place,
             Ok(Found::End) => return Ok(first),
             Ok(Found::Refused(why)) => {
-                let why = Refusal::Job(why);
-                let fault = texts_fault(Some(number), why);
+                let cost = refused_cost(Refusal::Job(why));
+                let fault = texts_fault(Some(number), Refusal::Job(why));
                 first = pass(alloc, asked, fault, first, error)?;
-                used += refused_cost(why);
+                used += cost;
                 continue;
             }
             Err(why) => return Err(texts_fault(Some(number), why)),
@@ -283,10 +283,10 @@ fn draw_labels_by<R: Source, P: Pictures, E: Sink>(
         let ready = match draw_line(alloc, strike, notes, asked, number, line) {
             Ok(ready) => ready,
             Err(refused) => {
-                let why = refused.refusal;
-                let fault = texts_fault(Some(number), why);
+                let cost = refused_cost(refused.refusal);
+                let fault = texts_fault(Some(number), refused.refusal);
                 first = pass(alloc, asked, fault, first, error)?;
-                used += refused_cost(why);
+                used += cost;
                 continue;
             }
         };

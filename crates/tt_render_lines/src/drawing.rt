@@ -215,10 +215,10 @@ fn draw_lines_by<R: Source, W: Sink, E: Sink>(
                 });
             }
             Ok(Found::Refused(why)) => {
-                let why = Refusal::Job(why);
-                let fault = texts_fault(Some(number), why);
+                let cost = refused_cost(Refusal::Job(why));
+                let fault = texts_fault(Some(number), Refusal::Job(why));
                 first = pass(alloc, setting.keep_going, fault, first, error)?;
-                used += refused_cost(why);
+                used += cost;
                 continue;
             }
             Err(why) => return Err(texts_fault(Some(number), why)),
@@ -227,10 +227,10 @@ fn draw_lines_by<R: Source, W: Sink, E: Sink>(
         let ready = match draw_line(alloc, strike, file, setting, number, line) {
             Ok(ready) => ready,
             Err(refused) => {
-                let why = refused.refusal;
-                let fault = texts_fault(Some(number), why);
+                let cost = refused_cost(refused.refusal);
+                let fault = texts_fault(Some(number), refused.refusal);
                 first = pass(alloc, setting.keep_going, fault, first, error)?;
-                used += refused_cost(why);
+                used += cost;
                 continue;
             }
         };

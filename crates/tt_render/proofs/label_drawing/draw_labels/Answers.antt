@@ -1,4 +1,4 @@
-use Rattle.std.proofs.Common.{refl, List, Option, Ok, Err, inl, subst}
+use Rattle.std.proofs.Common.{refl, List, Option, Ok, Err, inl, inr, subst, sym}
 use Rattle.tt_render_settings.specs.Lines.{places}
 use Rattle.tt_render_texts.specs.declared.refusal.TextsFault.{TextsFault}
 use Rattle.tt_render.specs.Labels.{composed_glyphs}
@@ -23,7 +23,7 @@ returns-in-Err-clause-outcome g c =
     c.requires.error in
     let unread : FontIsUnread (font_reader_of g.F.Source.left g.F.Source.has_failed c.args.font.now c.args.font.now) =
     (keeps_itself (g.F.Source.left c.args.font.now), c.requires.font) in
-    rw c.unhinted.ensures (inl ((c.in-Err.ensures, unread), rest))
+    rw c.unhinted-in-Err.ensures (inr (sym c.in_default.ensures, inl ((c.in-Err.ensures, unread), rest)))
 
 pub returns-in-Err-read_font-clause-outcome : goal.returns-in-Err-read_font-clause-outcome
 returns-in-Err-read_font-clause-outcome g c =
@@ -33,9 +33,9 @@ returns-in-Err-read_font-clause-outcome g c =
     (g.P.Pictures.has_failed c.args.out.now) (g.E.Sink.has_failed c.args.error.now) c.requires.lines c.requires.out
     c.requires.error in
     let stops = reading_stops (Option TextsFault) _ (strike_of c.args.asked.now.setting) c.in-Err-read_font.fault
-    (left c.args.font.now) (left c.read_font.new.font) (g.F.Source.has_failed c.read_font.new.font) c.in_default.ensures
+    (left c.args.font.now) (left c.read_font.new.font) (g.F.Source.has_failed c.read_font.new.font) c.in_default-2.ensures
     c.in-Err-read_font.ensures in
-    rw (c.unhinted-in-Err-read_font.ensures, c.refusal_of_run.ensures) (inl (stops, rest))
+    rw (c.unhinted-in-Err-read_font.ensures, c.refusal_of_run.ensures) (inr (sym c.in_default.ensures, inl (stops, rest)))
 
 pub returns-in-Ok-draw_labels_of-clause-outcome : goal.returns-in-Ok-draw_labels_of-clause-outcome
 returns-in-Ok-draw_labels_of-clause-outcome g c =
@@ -46,9 +46,8 @@ returns-in-Ok-draw_labels_of-clause-outcome g c =
     let t = traffic_of g.R.Source.left g.R.Source.has_failed g.P.Pictures.written g.P.Pictures.has_failed c.args.lines.now
     c.draw_labels_of.new.lines c.args.out.now c.draw_labels_of.new.out in
     let e = errors_of g.E.Sink.written g.E.Sink.has_failed c.args.error.now c.draw_labels_of.new.error in
-    rw c.done.ensures
-    (by_reader (places g.P.Pictures.shown) l file.file.items (Ok c.in-Ok-draw_labels_of.first) f t e c.in_default.ensures read
-    (rw c.deref.ensures.value at c.in-Ok-draw_labels_of.ensures.outcome))
+    rw c.done.ensures (inr (sym c.in_default.ensures, by_reader (places g.P.Pictures.shown) l file.file.items (Ok c.in-Ok-draw_labels_of.first) f t e c.in_default-2.ensures read
+    (rw c.deref.ensures.value at c.in-Ok-draw_labels_of.ensures.outcome)))
 
 pub returns-clause-outcome : goal.returns-clause-outcome
 returns-clause-outcome g c =
@@ -61,13 +60,12 @@ returns-clause-outcome g c =
     let e = errors_of g.E.Sink.written g.E.Sink.has_failed c.args.error.now c.draw_labels_of.new.error in
     let fault = c.in-Err-draw_labels_of.fault in
     let Gives : List _ → Type 0 = λ bytes. FileLabelsGive (places g.P.Pictures.shown) l bytes (Err fault) t e in
-    rw c.hinted.ensures
-    (by_reader (places g.P.Pictures.shown) l file.file.items (Err fault) f t e c.in_default.ensures read
-    (subst Gives c.deref.ensures.value c.in-Err-draw_labels_of.ensures.outcome))
+    rw c.hinted.ensures (inr (sym c.in_default.ensures, by_reader (places g.P.Pictures.shown) l file.file.items (Err fault) f t e c.in_default-2.ensures read
+    (subst Gives c.deref.ensures.value c.in-Err-draw_labels_of.ensures.outcome)))
 
 pub returns-in-Err-clause-hint : goal.returns-in-Err-clause-hint
 returns-in-Err-clause-hint g c =
-    rw c.unhinted.ensures (if_some_all (g.F.Source.left c.args.font.now) _ (λ file. refl))
+    rw c.unhinted-in-Err.ensures (if_some_all (g.F.Source.left c.args.font.now) _ (λ file. refl))
 
 pub returns-in-Err-read_font-clause-hint : goal.returns-in-Err-read_font-clause-hint
 returns-in-Err-read_font-clause-hint g c =
@@ -90,7 +88,7 @@ returns-clause-hint g c =
 
 pub returns-in-Err-clause-defects : goal.returns-in-Err-clause-defects
 returns-in-Err-clause-defects g c = λ free.
-    rw c.unhinted.ensures (setting_tells (Option TextsFault) composed_glyphs (g.F.Source.left c.args.font.now)
+    rw c.unhinted-in-Err.ensures (setting_tells (Option TextsFault) composed_glyphs (g.F.Source.left c.args.font.now)
     c.args.asked.now.setting (g.R.Source.left c.args.lines.now) c.in-Err.fault)
 
 pub returns-in-Err-read_font-clause-defects : goal.returns-in-Err-read_font-clause-defects

@@ -108,11 +108,11 @@ loop-before-preserved-in-Ok-Refused g c =
     c.in-Ok-Refused.why found.0 in
     let passed = rw c.texts_fault-fault.ensures at c.in_ok-first-in-Ok-Refused.ensures in
     let goes = passed.goes in
-    let cost : c.refused_cost.result ≡ refused_cost why = c.refused_cost.ensures.exact in
+    let cost : c.refused_cost-cost.result ≡ refused_cost why = c.refused_cost-cost.ensures.exact in
     record {
       strike = so_far.strike;
       reads = c.in-Ok-Refused.ensures.failure;
-      few = omega (arith, so_far.few, c.refused_cost.ensures.bound);
+      few = omega (arith, so_far.few, c.refused_cost-cost.ensures.bound);
       writes = so_far.writes;
       passes = λ none. absurd (passes_asked d keeps line_told why refl goes none);
       so_far = rw (passed.first, cost) (passed_on d keeps (λ fault. texts_line_of fault ++ codes "\n") (left c.args.lines.now) rest after
@@ -215,12 +215,12 @@ loop-before-preserved-in-Err-draw_line g c =
     same found.0 found.2 is in
     let passed = rw c.texts_fault-fault-in-Err-draw_line.ensures at c.in_ok-first-in-Err-draw_line.ensures in
     let goes = passed.goes in
-    let cost : c.refused_cost-in-Err-draw_line.result ≡ refused_cost why = c.refused_cost-in-Err-draw_line.ensures.exact in
+    let cost : c.refused_cost-cost-in-Err-draw_line.result ≡ refused_cost why = c.refused_cost-cost-in-Err-draw_line.ensures.exact in
     record {
       strike = kept_alone c.args.strike.now c.loop-before.strike c.draw_line.new.strike so_far.strike
           c.in-Err-draw_line.ensures.same;
       reads = c.in-Ok-Line.ensures.failure;
-      few = omega (arith, so_far.few, c.refused_cost-in-Err-draw_line.ensures.bound);
+      few = omega (arith, so_far.few, c.refused_cost-cost-in-Err-draw_line.ensures.bound);
       writes = so_far.writes;
       passes = λ none. absurd (passes_asked d keeps line_told why refl goes none);
       so_far = rw (passed.first, cost) (passed_on d keeps (λ fault. texts_line_of fault ++ codes "\n") (left c.args.lines.now) rest after
