@@ -41,7 +41,7 @@ returns-in-Err-read_font-clause-outcome g c =
     let left = g.R.Source.left in
     let font = c.read_font.new.font in
     let failed = g.R.Source.has_failed font in
-    let good = subst (λ (k : Job). tested k ≡ Ok tt) c.job.ensures.exact c.in_default-2.ensures.exact in
+    let good = subst (λ (k : Job). tested k ≡ Ok tt) c.job.ensures.exact c.in_default-test_job.ensures.exact in
     let stops = reading_stops (Option TextsFault) (tested (job_by a c.args.text.now)) (strike_of a) c.in-Err-read_font.fault
     (left c.args.font.now) (left font) failed good c.in-Err-read_font.ensures in
     rw (c.unhinted-in-Err-read_font.ensures, c.refusal_of_run.ensures) (inr (sym c.in_default.ensures, inl (
@@ -58,7 +58,7 @@ returns-in-Err-notes_of-clause-outcome g c =
     let file = c.in-Ok in
     let l = c.args.asked.now in
     let text = c.args.text.now in
-    let good = subst (λ (k : Job). tested k ≡ Ok tt) c.job.ensures.exact c.in_default-2.ensures.exact in
+    let good = subst (λ (k : Job). tested k ≡ Ok tt) c.job.ensures.exact c.in_default-test_job.ensures.exact in
     rw c.unhinted-in-Err-notes_of.ensures (inr (sym c.in_default.ensures, text_fails (Option TextsFault) (places g.P.Pictures.shown) l.setting (λ t. label_answer l t text) text file.file.items (before_lines reason.Memory)
     (traffic_of left g.R.Source.has_failed g.P.Pictures.written g.P.Pictures.has_failed c.args.font.now font c.args.out.now
     c.args.out.now) (errors_of g.E.Sink.written g.E.Sink.has_failed c.args.error.now c.args.error.now)
@@ -75,7 +75,7 @@ returns-in-Err-draw-clause-outcome g c =
     let l = c.args.asked.now in
     let text = c.args.text.now in
     let fault = c.in-Err-draw.fault in
-    let good = subst (λ (k : Job). tested k ≡ Ok tt) c.job.ensures.exact c.in_default-2.ensures.exact in
+    let good = subst (λ (k : Job). tested k ≡ Ok tt) c.job.ensures.exact c.in_default-test_job.ensures.exact in
     let P : List ℕ → Type 0 = λ bytes. LabelReadies (λ t. label_answer l t text) (strike_of l.setting bytes) (Err fault) in
     let why = subst P c.deref-2.ensures.value c.in-Err-draw.ensures.outcome in
     rw c.hinted.ensures (inr (sym c.in_default.ensures, text_fails (Option TextsFault) (places g.P.Pictures.shown) l.setting (λ t. label_answer l t text) text file.file.items fault
@@ -90,7 +90,7 @@ returns-in-Ok-put-clause-outcome g c =
     let file = c.in-Ok in
     let ready = c.in-Ok-draw in
     let l = c.args.asked.now in
-    let good = subst (λ (k : Job). tested k ≡ Ok tt) c.job.ensures.exact c.in_default-2.ensures.exact in
+    let good = subst (λ (k : Job). tested k ≡ Ok tt) c.job.ensures.exact c.in_default-test_job.ensures.exact in
     let made = rw c.deref-2.ensures.value at ready.ensures.outcome in
     let printed = rw (c.requires.error, c.deref-in-Ok-put.ensures, ready.ensures.report) at c.print_text.ensures in
     rw c.done.ensures (inr (sym c.in_default.ensures, text_written (Option TextsFault) None (places g.P.Pictures.shown) l.setting (λ t. label_answer l t c.args.text.now) c.args.text.now file.file.items made.0
@@ -106,7 +106,7 @@ returns-clause-outcome g c =
     let file = c.in-Ok in
     let ready = c.in-Ok-draw in
     let l = c.args.asked.now in
-    let good = subst (λ (k : Job). tested k ≡ Ok tt) c.job.ensures.exact c.in_default-2.ensures.exact in
+    let good = subst (λ (k : Job). tested k ≡ Ok tt) c.job.ensures.exact c.in_default-test_job.ensures.exact in
     let made = rw c.deref-2.ensures.value at ready.ensures.outcome in
     let t = traffic_of g.R.Source.left g.R.Source.has_failed g.P.Pictures.written g.P.Pictures.has_failed c.args.font.now
     c.read_font.new.font c.args.out.now c.put.new.self in
