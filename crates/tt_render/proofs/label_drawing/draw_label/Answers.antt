@@ -29,11 +29,14 @@ returns-in-Err-clause-outcome g c =
     (Err (before_lines (reason.Job j)))
     (font_reader_of g.R.Source.left g.R.Source.has_failed c.args.font.now c.args.font.now)
     = (subst (λ (k : Job). tested k ≡ Err j) c.job.ensures.exact c.in-Err.ensures.exact, (keeps_itself left, c.requires.font)) in
-    rw c.unhinted-in-Err.ensures (inr (sym c.in_default.ensures, inl (
-      stops,
-      silent left left (g.P.Pictures.written c.args.out.now) (g.E.Sink.written c.args.error.now)
-          (g.R.Source.has_failed c.args.font.now) _ _ c.requires.out c.requires.error,
-    )))
+    rw c.unhinted-in-Err.ensures (inr (
+      sym c.in_default.ensures,
+      inl (
+        stops,
+        silent left left (g.P.Pictures.written c.args.out.now) (g.E.Sink.written c.args.error.now)
+            (g.R.Source.has_failed c.args.font.now) _ _ c.requires.out c.requires.error,
+      ),
+    ))
 
 pub returns-in-Err-read_font-clause-outcome : goal.returns-in-Err-read_font-clause-outcome
 returns-in-Err-read_font-clause-outcome g c =
@@ -44,11 +47,14 @@ returns-in-Err-read_font-clause-outcome g c =
     let good = subst (λ (k : Job). tested k ≡ Ok tt) c.job.ensures.exact c.in_default-test_job.ensures.exact in
     let stops = reading_stops (Option TextsFault) (tested (job_by a c.args.text.now)) (strike_of a) c.in-Err-read_font.fault
     (left c.args.font.now) (left font) failed good c.in-Err-read_font.ensures in
-    rw (c.unhinted-in-Err-read_font.ensures, c.refusal_of_run.ensures) (inr (sym c.in_default.ensures, inl (
-      stops,
-      silent (left c.args.font.now) (left font) (g.P.Pictures.written c.args.out.now)
-          (g.E.Sink.written c.args.error.now) failed _ _ c.requires.out c.requires.error,
-    )))
+    rw (c.unhinted-in-Err-read_font.ensures, c.refusal_of_run.ensures) (inr (
+      sym c.in_default.ensures,
+      inl (
+        stops,
+        silent (left c.args.font.now) (left font) (g.P.Pictures.written c.args.out.now)
+            (g.E.Sink.written c.args.error.now) failed _ _ c.requires.out c.requires.error,
+      ),
+    ))
 
 pub returns-in-Err-notes_of-clause-outcome : goal.returns-in-Err-notes_of-clause-outcome
 returns-in-Err-notes_of-clause-outcome g c =
@@ -59,12 +65,15 @@ returns-in-Err-notes_of-clause-outcome g c =
     let l = c.args.asked.now in
     let text = c.args.text.now in
     let good = subst (λ (k : Job). tested k ≡ Ok tt) c.job.ensures.exact c.in_default-test_job.ensures.exact in
-    rw c.unhinted-in-Err-notes_of.ensures (inr (sym c.in_default.ensures, text_fails (Option TextsFault) (places g.P.Pictures.shown) l.setting (λ t. label_answer l t text) text file.file.items (before_lines reason.Memory)
-    (traffic_of left g.R.Source.has_failed g.P.Pictures.written g.P.Pictures.has_failed c.args.font.now font c.args.out.now
-    c.args.out.now) (errors_of g.E.Sink.written g.E.Sink.has_failed c.args.error.now c.args.error.now)
-    good (file.ensures.0, file.ensures.1, file.ensures.3) tt
-    (silent (left c.args.font.now) (left font) (g.P.Pictures.written c.args.out.now) (g.E.Sink.written c.args.error.now)
-    failed _ _ c.requires.out c.requires.error)))
+    rw c.unhinted-in-Err-notes_of.ensures (inr (
+      sym c.in_default.ensures,
+      text_fails (Option TextsFault) (places g.P.Pictures.shown) l.setting (λ t. label_answer l t text) text file.file.items (before_lines reason.Memory)
+          (traffic_of left g.R.Source.has_failed g.P.Pictures.written g.P.Pictures.has_failed c.args.font.now font c.args.out.now
+          c.args.out.now) (errors_of g.E.Sink.written g.E.Sink.has_failed c.args.error.now c.args.error.now)
+          good (file.ensures.0, file.ensures.1, file.ensures.3) tt
+          (silent (left c.args.font.now) (left font) (g.P.Pictures.written c.args.out.now) (g.E.Sink.written c.args.error.now)
+          failed _ _ c.requires.out c.requires.error),
+    ))
 
 pub returns-in-Err-draw-clause-outcome : goal.returns-in-Err-draw-clause-outcome
 returns-in-Err-draw-clause-outcome g c =
@@ -78,12 +87,15 @@ returns-in-Err-draw-clause-outcome g c =
     let good = subst (λ (k : Job). tested k ≡ Ok tt) c.job.ensures.exact c.in_default-test_job.ensures.exact in
     let P : List ℕ → Type 0 = λ bytes. LabelReadies (λ t. label_answer l t text) (strike_of l.setting bytes) (Err fault) in
     let why = subst P c.deref-2.ensures.value c.in-Err-draw.ensures.outcome in
-    rw c.hinted.ensures (inr (sym c.in_default.ensures, text_fails (Option TextsFault) (places g.P.Pictures.shown) l.setting (λ t. label_answer l t text) text file.file.items fault
-    (traffic_of left g.R.Source.has_failed g.P.Pictures.written g.P.Pictures.has_failed c.args.font.now font c.args.out.now
-    c.args.out.now) (errors_of g.E.Sink.written g.E.Sink.has_failed c.args.error.now c.args.error.now)
-    good (file.ensures.0, file.ensures.1, file.ensures.3) why
-    (silent (left c.args.font.now) (left font) (g.P.Pictures.written c.args.out.now) (g.E.Sink.written c.args.error.now)
-    failed _ _ c.requires.out c.requires.error)))
+    rw c.hinted.ensures (inr (
+      sym c.in_default.ensures,
+      text_fails (Option TextsFault) (places g.P.Pictures.shown) l.setting (λ t. label_answer l t text) text file.file.items fault
+          (traffic_of left g.R.Source.has_failed g.P.Pictures.written g.P.Pictures.has_failed c.args.font.now font c.args.out.now
+          c.args.out.now) (errors_of g.E.Sink.written g.E.Sink.has_failed c.args.error.now c.args.error.now)
+          good (file.ensures.0, file.ensures.1, file.ensures.3) why
+          (silent (left c.args.font.now) (left font) (g.P.Pictures.written c.args.out.now) (g.E.Sink.written c.args.error.now)
+          failed _ _ c.requires.out c.requires.error),
+    ))
 
 pub returns-in-Ok-put-clause-outcome : goal.returns-in-Ok-put-clause-outcome
 returns-in-Ok-put-clause-outcome g c =
@@ -93,13 +105,16 @@ returns-in-Ok-put-clause-outcome g c =
     let good = subst (λ (k : Job). tested k ≡ Ok tt) c.job.ensures.exact c.in_default-test_job.ensures.exact in
     let made = rw c.deref-2.ensures.value at ready.ensures.outcome in
     let printed = rw (c.requires.error, c.deref-in-Ok-put.ensures, ready.ensures.report) at c.print_text.ensures in
-    rw c.done.ensures (inr (sym c.in_default.ensures, text_written (Option TextsFault) None (places g.P.Pictures.shown) l.setting (λ t. label_answer l t c.args.text.now) c.args.text.now file.file.items made.0
-    (label_view ready.ready)
-    (traffic_of g.R.Source.left g.R.Source.has_failed g.P.Pictures.written g.P.Pictures.has_failed c.args.font.now
-    c.read_font.new.font c.args.out.now c.put.new.self)
-    (errors_of g.E.Sink.written g.E.Sink.has_failed c.args.error.now c.print_text.new.error)
-    good (file.ensures.0, file.ensures.1, file.ensures.3) made.1 made.2
-    c.in-Ok-put.ensures.all c.in-Ok-put.ensures.failure printed))
+    rw c.done.ensures (inr (
+      sym c.in_default.ensures,
+      text_written (Option TextsFault) None (places g.P.Pictures.shown) l.setting (λ t. label_answer l t c.args.text.now) c.args.text.now file.file.items made.0
+          (label_view ready.ready)
+          (traffic_of g.R.Source.left g.R.Source.has_failed g.P.Pictures.written g.P.Pictures.has_failed c.args.font.now
+          c.read_font.new.font c.args.out.now c.put.new.self)
+          (errors_of g.E.Sink.written g.E.Sink.has_failed c.args.error.now c.print_text.new.error)
+          good (file.ensures.0, file.ensures.1, file.ensures.3) made.1 made.2
+          c.in-Ok-put.ensures.all c.in-Ok-put.ensures.failure printed,
+    ))
 
 pub returns-clause-outcome : goal.returns-clause-outcome
 returns-clause-outcome g c =
@@ -111,10 +126,13 @@ returns-clause-outcome g c =
     let t = traffic_of g.R.Source.left g.R.Source.has_failed g.P.Pictures.written g.P.Pictures.has_failed c.args.font.now
     c.read_font.new.font c.args.out.now c.put.new.self in
     let e = errors_of g.E.Sink.written g.E.Sink.has_failed c.args.error.now c.args.error.now in
-    rw (c.unhinted-in-Err-put.ensures, c.refusal_of_put.ensures) (inr (sym c.in_default.ensures, not_put (places g.P.Pictures.shown) l.setting (λ t. label_answer l t c.args.text.now) c.args.text.now file.file.items made.0
-    (label_view ready.ready) t e c.in-Err-put.fault refl good (file.ensures.0, file.ensures.1, file.ensures.3) made.1 made.2
-    c.in-Err-put.ensures.part c.in-Err-put.ensures.failure
-    (keeps_itself (g.E.Sink.written c.args.error.now), c.requires.error)))
+    rw (c.unhinted-in-Err-put.ensures, c.refusal_of_put.ensures) (inr (
+      sym c.in_default.ensures,
+      not_put (places g.P.Pictures.shown) l.setting (λ t. label_answer l t c.args.text.now) c.args.text.now file.file.items made.0
+          (label_view ready.ready) t e c.in-Err-put.fault refl good (file.ensures.0, file.ensures.1, file.ensures.3) made.1 made.2
+          c.in-Err-put.ensures.part c.in-Err-put.ensures.failure
+          (keeps_itself (g.E.Sink.written c.args.error.now), c.requires.error),
+    ))
 
 pub returns-in-Err-clause-hint : goal.returns-in-Err-clause-hint
 returns-in-Err-clause-hint g c =

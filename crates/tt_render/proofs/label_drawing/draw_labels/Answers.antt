@@ -46,8 +46,11 @@ returns-in-Ok-draw_labels_of-clause-outcome g c =
     let t = traffic_of g.R.Source.left g.R.Source.has_failed g.P.Pictures.written g.P.Pictures.has_failed c.args.lines.now
     c.draw_labels_of.new.lines c.args.out.now c.draw_labels_of.new.out in
     let e = errors_of g.E.Sink.written g.E.Sink.has_failed c.args.error.now c.draw_labels_of.new.error in
-    rw c.done.ensures (inr (sym c.in_default.ensures, by_reader (places g.P.Pictures.shown) l file.file.items (Ok c.in-Ok-draw_labels_of.first) f t e c.in_default-test_setting.ensures read
-    (rw c.deref.ensures.value at c.in-Ok-draw_labels_of.ensures.outcome)))
+    rw c.done.ensures (inr (
+      sym c.in_default.ensures,
+      by_reader (places g.P.Pictures.shown) l file.file.items (Ok c.in-Ok-draw_labels_of.first) f t e c.in_default-test_setting.ensures read
+          (rw c.deref.ensures.value at c.in-Ok-draw_labels_of.ensures.outcome),
+    ))
 
 pub returns-clause-outcome : goal.returns-clause-outcome
 returns-clause-outcome g c =
@@ -60,8 +63,11 @@ returns-clause-outcome g c =
     let e = errors_of g.E.Sink.written g.E.Sink.has_failed c.args.error.now c.draw_labels_of.new.error in
     let fault = c.in-Err-draw_labels_of.fault in
     let Gives : List _ → Type 0 = λ bytes. FileLabelsGive (places g.P.Pictures.shown) l bytes (Err fault) t e in
-    rw c.hinted.ensures (inr (sym c.in_default.ensures, by_reader (places g.P.Pictures.shown) l file.file.items (Err fault) f t e c.in_default-test_setting.ensures read
-    (subst Gives c.deref.ensures.value c.in-Err-draw_labels_of.ensures.outcome)))
+    rw c.hinted.ensures (inr (
+      sym c.in_default.ensures,
+      by_reader (places g.P.Pictures.shown) l file.file.items (Err fault) f t e c.in_default-test_setting.ensures read
+          (subst Gives c.deref.ensures.value c.in-Err-draw_labels_of.ensures.outcome),
+    ))
 
 pub returns-in-Err-clause-hint : goal.returns-in-Err-clause-hint
 returns-in-Err-clause-hint g c =
