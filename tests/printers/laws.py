@@ -20,6 +20,10 @@ ALPHABET = "AAAAAABBB    --\u2010\u200b12.(\u4e00\u3042\u3001\u300c\n"
 MARKED = "Ae\u0301\u0308\u0323\u030a\u1112\u1161\u11ab n\u0303"
 TEXTS = 120
 SEED = 84
+# One of this many installed fonts has the laws of boxes, which ask for many sizes.
+BOXES = 4
+# The longest texts that may cost the most.
+LONG = {"blanks": " " * 4096, "marks": "A" + "\u0308" * 4095, "ideographs": "\u4e00" * 4096, "hyphens": "A-" * 2048}
 
 
 def rows_as_lines(rows):
@@ -185,9 +189,24 @@ def compositions(asked):
             common.verdict(f"composed once: {name} {text!a}", [] if again == once else [f"{again!a}"])
 
 
-def in_each_font(asked, name, judged):
-    """Judges each installed font by a function of a font and its number."""
-    found = on_fonts.fonts()
+def long_texts(asked):
+    """The longest texts with a width: the picture has the width, or is too high. Blanks are one row without ink."""
+    folder = asked.folder(labels.fonts(cases.HERE / "fonts.txt")["words"])
+    words = ["label", "--size", "4", "--width", "64", "F.ttf"]
+    for name, text in LONG.items():
+        status, picture, errors = asked.run([*words, text], folder)
+        if status == 2:
+            faults = [] if errors.startswith(b"tt_render: 63 PictureLarge\n") else [f"{errors[:200]!r}"]
+        else:
+            faults = [] if picture.startswith(b"P4\n64 ") else [f"status {status}, and {picture[:20]!r}"]
+        common.verdict(f"long text: {name}", faults)
+        if name == "blanks":
+            common.tried("long text as an empty one", (status, picture, b""), (*asked.run([*words, ""], folder)[:2], b""))
+
+
+def in_each_font(asked, name, judged, step=1):
+    """Judges each installed font, or one of some, by a function of a font and its number."""
+    found = on_fonts.fonts()[::step]
     for path, faults in zip(found, asked.each(judged, found, range(len(found)))):
         common.verdict(f"{name} {path}", faults)
     if not found:
@@ -206,10 +225,10 @@ def installed_widths(asked):
 
 
 def installed_boxes(asked):
-    """The laws of --box for a sentence in each installed font."""
+    """The laws of --box for a sentence in some installed fonts."""
 
     def judged(path, at):
         face, align = on_fonts.Face(asked, path, at % 4 == 1), model.ALIGNS[at % 3]
         return box_faults(asked, face, on_fonts.SENTENCE, 384, 80 + at % 90, at % 4, align)
 
-    in_each_font(asked, "laws of box", judged)
+    in_each_font(asked, "laws of box", judged, BOXES)
