@@ -33,8 +33,8 @@ def rows_as_lines(rows):
 
 
 def laws_of_rows(units, rows, room):
-    """Judges the rows of a line: each unit but dropped blanks is in one, in order; none of whole words is wider than the
-    room; none could have been longer."""
+    """Judges the rows of a line: each unit but dropped blanks is in one, in order; none of whole words is wider than
+    the room; none could have been longer."""
     line, faults, at = "".join(it.character for it in units), [], 0
     for number, row in enumerate(rows):
         last, end = number == len(rows) - 1, at + len(row.text)
@@ -54,7 +54,7 @@ def laws_of_rows(units, rows, room):
 
 
 def columns_cut(errors):
-    """Returns how many columns of ink a report says are cut at the left and at the right, and the report without that."""
+    """Returns how many columns of ink a report says are cut at the left and at the right, and the rest of the report."""
     found = re.search(rb"tt_render: ink is cut: (.*); --margin or a greater --width shows it\n", errors)
     sides = found[1].decode() if found else ""
     counts = [int((re.search(rf"(\d+) columns? at the {it}", sides) or [0, 0])[1]) for it in ("left", "right")]
@@ -112,8 +112,8 @@ def width_faults(asked, face, size, text, width, margin):
 
 
 def box_faults(asked, face, text, width, height, margin, align):
-    """Judges a text in a box. Its size is the least --size that draws the same. The picture is the model's at this size;
-    at greater ones the text does not fit, or is drawn alike; the ink is that of its rows as lines, whole."""
+    """Judges a text in a box. Its size is the least --size that draws the same. The picture is the model's at this
+    size; at greater ones the text does not fit, or is drawn alike; the ink is that of its rows as lines, whole."""
     words = ["label", "--box", f"{width}x{height}", "--margin", str(margin), "--align", align, *face.kern]
     at = lambda size: asked.run([*words, "--size", str(size), "--", face.path, text])
     rows_at = lambda size, room, free: face.rows_in_box(size, text, room, free)
@@ -135,7 +135,8 @@ def box_faults(asked, face, text, width, height, margin, align):
     lines, room = model.label_lines(text), width - 2 * margin
     rows = [it for line in lines for it in breaking.rows_of(face.units(size, line), room)]
     faults += [f"{it.text!r} is broken within a word at {size}" for it in rows if it.broken]
-    plain = asked.run(["label", "--size", str(size), "--align", align, *face.kern, "--", face.path, rows_as_lines(rows)])
+    options = ["--size", str(size), "--align", align, *face.kern]
+    plain = asked.run(["label", *options, "--", face.path, rows_as_lines(rows)])
     if align != "centre" and cropped(plain[1]) != cropped(picture):
         faults.append(f"other ink than that of its {len(rows)} rows at {size}")
     black = [sum(it.bit_count() for it in model.rows_of(one)[1]) for one in (plain[1], picture)]
@@ -201,7 +202,8 @@ def long_texts(asked):
             faults = [] if picture.startswith(b"P4\n64 ") else [f"status {status}, and {picture[:20]!r}"]
         common.verdict(f"long text: {name}", faults)
         if name == "blanks":
-            common.tried("long text as an empty one", (status, picture, b""), (*asked.run([*words, ""], folder)[:2], b""))
+            wanted = *asked.run([*words, ""], folder)[:2], b""
+            common.tried("long text as an empty one", (status, picture, b""), wanted)
 
 
 def in_each_font(asked, name, judged, step=1):
