@@ -54,7 +54,7 @@ def laws_of_rows(units, rows, room):
 
 
 def columns_cut(errors):
-    """Returns how many columns of ink a report says are cut at the left and at the right, and the rest of the report."""
+    """Returns how many columns of ink a report says are cut at the left and at the right, and the report's rest."""
     found = re.search(rb"tt_render: ink is cut: (.*); --margin or a greater --width shows it\n", errors)
     sides = found[1].decode() if found else ""
     counts = [int((re.search(rf"(\d+) columns? at the {it}", sides) or [0, 0])[1]) for it in ("left", "right")]
