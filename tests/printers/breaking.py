@@ -126,11 +126,11 @@ def in_width(lines, margin, align, width):
     return drawn(lines, [(x, y + top) for x, y in origins], width, height + top + bottom), told
 
 
-def in_box(rows_at, line_at, margin, align, width, height, greatest=GREATEST):
+def in_box(rows_at, line_at, margin, align, width, height, greatest=GREATEST, least=LEAST):
     """Returns the picture with --box and its size, or None where the text fits at no size. `rows_at` gives the rows of
     a size in a room, none where one line is too high; `line_at` gives a row drawn alone at a size."""
     room, free = width - 2 * margin, height - 2 * margin
-    for size in range(greatest, min(LEAST, greatest) - 1, -1):
+    for size in range(greatest, min(least, greatest) - 1, -1):
         rows = rows_at(size, room, free)
         if not rows or any(it.broken for it in rows):
             continue
