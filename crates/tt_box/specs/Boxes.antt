@@ -1,4 +1,4 @@
--- No part of the standard: the picture of a label that fills a box, at the greatest size at which its text fits (profile). No
+-- No part of the standard: the picture of a label that fills a box, at the greatest size that its text fits (profile). No
 -- word is broken, no ink lies outside of the box, and the rows stand in the middle.
 use Rattle.std.specs.Prelude.{◌≡◌, refl, ℕ, zero, suc, ◌+◌, ◌-◌, ◌*◌, Bool, true, false, not, ◌&&◌, nat_lt, if◌then◌else◌, pos, negsuc, int_le, int_lt, List, [], ◌∷◌, length, map, Option, None, Some, Result, Ok, Err}
 use Rattle.tt_box.specs.declared.place.LabelBox.{LabelBox}

@@ -127,7 +127,7 @@ fn next_size(
 ///
 /// Errors, the first of: MarginRange, TextLong; those of a size that is tried (`try_size`), or WorkLarge where the sizes
 /// tried before it took more than 10,000,000 units of work and 4,000,000 for each of them. Memory may come at any
-/// allocation. No glyph is made at a size at which one row is too high.
+/// allocation. No glyph is made at a size whose rows are too high.
 pub fn label_in_box(
     source: &FitterSource,
     text: &str,

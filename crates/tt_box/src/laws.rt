@@ -2,7 +2,7 @@
 
 ghost use Rattle.tt_box.specs.BoxLaws.{BoxesCutNone, NoSizeIsLeft, SizesAreGreatest};
 
-/// Lemma: at no greater size, from the one that is asked down, does the text of a label fit its box. A text that has no
+/// Lemma: at no greater size, from the requested one down, does the text of a label fit its box. A text that has no
 /// picture fits at none of the sizes.
 pub fn sizes_are_greatest()
     ensures greatest { SizesAreGreatest }

@@ -1,4 +1,4 @@
-//! The picture of a label that fills a box, at the greatest size at which its text fits.
+//! The picture of a label that fills a box, at the greatest size that its text fits.
 //!
 //! ```text
 //! place.rt    a box, with its margin and its alignment

@@ -116,7 +116,7 @@ label_named n m (Some a) s (Some f) (Some w) face (Some rules) keeps form = Some
 })
 label_named n m a s f w face rules keeps form = None
 
--- `--size SIZE --margin MARGIN --align ALIGN`, the asked space, `--fit FIT --missing MISSING`, `--face FACE`, and the rules
+-- `--size SIZE --margin MARGIN --align ALIGN`, the requested space, `--fit FIT --missing MISSING`, `--face FACE`, and the rules
 -- of lines; options may be absent; whether there is `--keep-going`, and the format of pictures
 abbrev pub label_options_asked
     : Option ℕ → Option ℕ → Option (List ℕ) → Space → Option (List ℕ) → Option (List ℕ) → Option ℕ → Option LineRules

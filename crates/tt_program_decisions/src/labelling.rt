@@ -19,7 +19,7 @@ pub struct LabelOptions {
     pub size: u32,
     pub margin: u32,
     pub align: Align,
-    /// The space that each picture is asked to have.
+    /// The space that each picture has to have.
     pub space: Space,
     pub fit: Fit,
     pub missing: Missing,

@@ -1,4 +1,4 @@
--- No part of the standard: the picture of a text as a label in the space that is asked for, by a font at a size (profile).
+-- No part of the standard: the picture of a text as a label in the requested space, by a font at a size (profile).
 use Rattle.std.specs.Prelude.{◌≡◌, ℕ, List, Some, None, Result, Ok, Err}
 use Rattle.tt_core.specs.Outcomes.{◌>>=◌}
 use Rattle.tt_face.specs.Faces.{Face}

@@ -118,7 +118,7 @@ fn draw<'n>(
 }
 
 /// Draws one text as a label by a font, and puts its picture into its place: that of its lines, one below the other,
-/// enlarged so that no ink is cut; or that of its rows in the asked width, whose report says what is cut at the sides.
+/// enlarged so that no ink is cut; or that of its rows in the requested width, whose report says what is cut at the sides.
 /// Before that the picture is whole in memory. Then its report is printed on `error`, and behind
 /// that report the lines about the font. A failure of `error` does not change the answer.
 ///

@@ -1,4 +1,4 @@
-//! The picture of a label in the space that it is asked to have.
+//! The picture of a label in the space that it has to have.
 
 ghost use Rattle.std.specs.Prelude.{◌≡◌, Ok, IfOk};
 ghost use Rattle.tt_core.specs.Outcomes.{GivesUnless};
@@ -22,7 +22,7 @@ pub(crate) struct CutLabel {
     pub(crate) cut: CutInk,
 }
 
-/// The picture of a text as a label, in the asked space. Errors, the first of: Space, of that space; those of `label`, or of
+/// The picture of a text as a label, in the requested space. Errors, the first of: Space, of that space; those of `label`, or of
 /// `label_in_width`.
 #[tactic(auto, unfolding(crate::specs::LabelSpaces::label_image))]
 pub(crate) fn label_picture(

@@ -44,7 +44,7 @@ job_help number job.PictureLarge a = fixed_help number (codes "a picture has at 
 job_help number job.WorkLarge a = fixed_help number (codes "the glyphs of this text are too much work at once")
 job_help number job.EmptyPicture a = []
 
--- the space that is asked for, as on the command line
+-- the requested space, as on the command line
 abbrev pub space_words : Space → List ℕ
 space_words space.Free = []
 space_words (space.Width width) = decimal width

@@ -1,4 +1,4 @@
--- No part of the standard: the space that a label is asked to have, and its test (profile). The test stands behind those
+-- No part of the standard: the space that a label has to have, and its test (profile). The test stands behind those
 -- of the size and of the margin, and before that of the text.
 use Rattle.std.specs.Prelude.{◌≡◌, refl, ℕ, ◌*◌, ◌||◌, nat_le, nat_lt, if◌then◌else◌, Option, Some, None, Result, Ok, Err, ⊤}
 use Rattle.tt_core.specs.declared.collection.Reading.TheVariants as reading
@@ -16,7 +16,7 @@ use Rattle.tt_render_texts.specs.declared.space_fault.SpaceFault.{SpaceFault}
 use Rattle.tt_render_texts.specs.declared.space_fault.SpaceFault.TheVariants as fault
 use Rattle.tt_strike.specs.Job.{margin_tested, size_tested}
 
--- the space that the option of a width asks for
+-- the space by the option of a width
 abbrev pub space_asked : Option ℕ → Space
 space_asked None = space.Free
 space_asked (Some width) = space.Width width
@@ -31,7 +31,7 @@ abbrev pub space_tested : Space → ℕ → Result (Unit {0}) SpaceFault
 space_tested space.Free margin = Ok tt
 space_tested (space.Width width) margin = width_tested width margin
 
--- the space that passed its test, and the margin by which it did
+-- the space that passed its test, and the margin of that test
 abbrev pub given_space : GivenSpace → Space
 given_space given.Free = space.Free
 given_space (given.Width g) = space.Width g.width

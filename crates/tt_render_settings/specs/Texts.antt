@@ -16,7 +16,7 @@ use Rattle.tt_render_texts.specs.declared.space_fault.SpaceFault.{SpaceFault}
 use Rattle.tt_render_texts.specs.Answers.{LabelTold, TextAnswer}
 use Rattle.tt_render_settings.specs.Products.{product_of}
 
--- why a text is not drawn: it is refused; its label does not stand in the asked space; it is not UTF-8; the font has no
+-- why a text is not drawn: it is refused; its label does not stand in the requested space; it is not UTF-8; the font has no
 -- glyph for this character
 pub data TextRefusal : Type 0 where
   refused : Refused → TextRefusal

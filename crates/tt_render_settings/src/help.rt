@@ -67,7 +67,7 @@ fn job_help(about: Messages, job: JobFault, setting: &Setting) -> Result<String,
     }
 }
 
-/// The space that is asked for, as on the command line.
+/// The requested space, as on the command line.
 fn space_words(alloc: Global, space: Space) -> Result<String, AllocError>
     ensures { IfOk result (λ text. string_bytes text ≡ space_words space) }
 {

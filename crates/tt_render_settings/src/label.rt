@@ -14,7 +14,7 @@ pub struct Label<'a> {
     pub setting: Setting,
     /// The side at which the lines begin or end.
     pub align: Align,
-    /// The space that each picture is asked to have.
+    /// The space that each picture has to have.
     pub space: Space,
     /// The path of the font, as it is reported.
     pub path: &'a str,

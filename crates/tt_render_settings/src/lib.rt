@@ -3,7 +3,7 @@
 //! ```text
 //! setting.rt  how texts are drawn
 //! label.rt    how labels are drawn, and why they are not
-//! space.rt    the space that a label is asked to have
+//! space.rt    the space that a label has to have
 //! given.rt    that space, tested
 //! help.rt     the second line about a refused label
 //! budget.rt   the next line, and what the lines of a call may take

@@ -1,4 +1,4 @@
-//! The space that a label is asked to have, and its tests.
+//! The space that a label has to have, and its tests.
 
 ghost use Rattle.std.specs.Prelude.{◌≡◌, IfOk};
 ghost use Rattle.tt_core.specs.Outcomes.{Gives};
@@ -10,7 +10,7 @@ use crate::setting::test_setting;
 use tt_core::WIDTH_LIMIT;
 use tt_render_texts::SpaceFault;
 
-/// The space that a label is asked to have.
+/// The space that a label has to have.
 #[derive(Clone, Copy, Debug, PartialEq, Eq)]
 pub enum Space {
     /// As many columns and rows as its lines take.
@@ -20,7 +20,7 @@ pub enum Space {
 }
 
 impl Space {
-    /// The space that an option asks for, if the option is there.
+    /// The space by an option, if the option is there.
     pub fn asked(width: Option<u32>) -> Space
         ensures { result ≡ space_asked width }
     {

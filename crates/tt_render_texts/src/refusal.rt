@@ -19,7 +19,7 @@ pub enum Refusal {
     /// The size or the margin is out of range, or the text cannot be drawn.
     #[error("{0}")]
     Job(JobFault),
-    /// The label does not stand in the width or the box that is asked for.
+    /// The label does not stand in the requested width or box.
     #[error("{0}")]
     Space(SpaceFault),
     /// The text is not UTF-8.

@@ -1,11 +1,11 @@
-//! Why a label does not stand in the width or the box that is asked for.
+//! Why a label does not stand in the requested width or box.
 
 ghost use Rattle.std.specs.Prelude.{◌≡◌};
 ghost use Rattle.tt_render_texts.specs.TextsMessages.{space_name, space_number};
 
 use thiserror::Error;
 
-/// Why a label does not stand in the width or the box that is asked for.
+/// Why a label does not stand in the requested width or box.
 #[derive(Clone, Copy, Debug, PartialEq, Eq, Error)]
 pub enum SpaceFault {
     /// The width is outside 1 to 16,384 pixels, or is not more than both margins.
