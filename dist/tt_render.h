@@ -23,7 +23,7 @@
  *   - No call comes from a signal handler, or from the forked child of a process with threads.
  *
  * No struct has a size field or a version. So a struct, tt_job too, changes only with a new number in the name of the
- * shared library, libtt_render.so.1; then a caller has to be compiled anew.
+ * shared library, libtt_render.so.2; then a caller has to be compiled anew.
  *
  * A font file is read strictly or widely. Strictly the file has one font, whose cmap has format 4 or 12. Widely the
  * file may be a collection of faces, and more formats and kinds of cmap are read: formats 0, 6, 10 and 13, symbol
@@ -47,20 +47,23 @@
  * count (61); the font's size, the place of the face, its tables; loca and glyf, the font's programs, the points, the
  * crossings (both 65); and last the room for the rows. A refused glyph has its refusal in its entry.
  *
+ * tt_strike reports the way to fit, size, margin; the font's size, the place of the face, its tables; and last a line
+ * that has no rows (62) or too many (63).
+ *
  * tt_draw_lines reports, once for the call: the way to fit, size, margin; the font's size, the place of the face, its
  * tables; lines_room. Then, line by line: the line's ends (67), the work of the lines before it (65), UTF-8, the text's
  * length, and all that follows above. So where the font is damaged and a line is not UTF-8, it answers TT_FONT, and
- * tt_draw TT_NOT_UTF8.
+ * tt_draw TT_NOT_UTF8. tt_lines_room reports the same, but looks at no room.
  *
- * Cost: tt_faces, tt_open and tt_map, with a face too, read tables alone. So do tt_layout and tt_pens without TT_BEST;
- * with TT_BEST they cost what tt_measure does, less the ink. tt_measure, tt_characters, tt_draw and tt_draw_band each
- * run the font's first two programs and fit all glyphs of the text: with hinting mostly some million instructions.
- * This is so even where the room is too small. tt_glyphs runs the two programs once and fits each glyph of its list
- * once, also where the room for the rows is too small: a list costs what a text of its glyphs does. tt_draw_lines runs
- * the two programs once, and fits no glyph that is cached: a label of 16 letters then takes some 30,000 instructions.
- * With keep 0 each line fits its glyphs anew, for up to a million instructions. With kern a call reads at most 10,000
- * numbers of GPOS and kern when it opens the font. For each pair of neighbouring glyphs it reads at most 5,120 numbers,
- * up to three times; real fonts need some 50.
+ * Cost: tt_faces, tt_open and tt_map, with a face too, and tt_strike read tables alone. So do tt_layout and tt_pens
+ * without TT_BEST; with TT_BEST they cost what tt_measure does, less the ink. tt_measure, tt_characters, tt_draw and
+ * tt_draw_band each run the font's first two programs and fit all glyphs of the text: with hinting mostly some million
+ * instructions. This is so even where the room is too small. tt_glyphs runs the two programs once and fits each glyph
+ * of its list once, also where the room for the rows is too small: a list costs what a text of its glyphs does.
+ * tt_draw_lines runs the two programs once, and fits no glyph that is cached: a label of 16 letters then takes some
+ * 30,000 instructions. tt_lines_room costs the same, less the rows. With keep 0 each line fits its glyphs anew, for up
+ * to a million instructions. With kern a call reads at most 10,000 numbers of GPOS and kern when it opens the font.
+ * For each pair of neighbouring glyphs it reads at most 5,120 numbers, up to three times; real fonts need some 50.
  */
 #ifndef TT_RENDER_H
 #define TT_RENDER_H
@@ -73,8 +76,8 @@ extern "C" {
 #endif
 
 /* The version of this header, as a text, and as 10,000 times its first part, 100 times the second, and the third. */
-#define TT_RENDER_VERSION_TEXT "0.2.0"
-#define TT_RENDER_VERSION 200
+#define TT_RENDER_VERSION_TEXT "0.3.0"
+#define TT_RENDER_VERSION 300
 
 /* The status of an answer. Up to 5 these are the program's exit statuses; 4, a failed write, does not occur here. */
 enum {
@@ -94,7 +97,7 @@ struct tt_answer {
     uint8_t table[4]; /* the tag of the table that has the defect, "file" for the directory; no zero at the end */
     uint32_t offset;  /* the defect's offset in it, in bytes */
     uint64_t bytes;   /* the bytes written or needed; 0 for entries */
-    uint64_t count;   /* the rows, entries or lines written, or the rows or entries needed */
+    uint64_t count;   /* the rows, entries or lines written or needed */
 };
 
 /* The figures of a font, in font units except the number of glyphs. */
@@ -128,9 +131,10 @@ enum {
  * rounded makes the rise and the depth of a line the ascent and the descent, each rounded to the nearest row, a half up.
  * Else each is rounded up. Pictures of box drawing characters then join where they are set one below the other.
  *
- * tt_draw, tt_draw_band, tt_draw_lines, tt_measure, tt_characters, tt_layout and tt_pens look at both: widths, pens and
- * advances follow kern; heights, base lines, rise, depth and step follow rounded. tt_glyphs looks at neither. tt_open,
- * tt_map and the calls with a face tell the font's own figures.
+ * tt_draw, tt_draw_band, tt_draw_lines, tt_lines_room, tt_measure, tt_characters, tt_layout and tt_pens look at both:
+ * widths, pens and advances follow kern; heights, base lines, rise, depth and step follow rounded. tt_strike has no
+ * text, and looks at rounded. tt_glyphs looks at neither. tt_open, tt_map and the calls with a face tell the font's
+ * own figures.
  */
 struct tt_job {
     uint32_t size;    /* pixels per em, 1 to 300 */
@@ -140,9 +144,10 @@ struct tt_job {
     uint32_t face;    /* n + 1: face n, read widely. 0: the only font, read strictly; with TT_BEST face 0, read widely */
     uint32_t kern;    /* not 0: pairs of neighbouring glyphs are kerned */
     uint32_t rounded; /* not 0: rise and depth are each rounded to the nearest row, so that box drawing joins */
+    uint32_t blank;   /* not 0: a line of tt_draw_lines without a byte is blank, and never refused */
 };
 
-/* A picture without its pixels. */
+/* A picture without its pixels. All is 0 for a blank line. */
 struct tt_picture {
     uint32_t width;     /* pixels in a row, 1 to 16,384 */
     uint32_t height;    /* rows, 1 to 4,096 */
@@ -176,6 +181,7 @@ struct tt_character {
     int64_t pen;      /* the column of the origin */
     uint64_t has_ink; /* 0: nothing is black, and the box is all 0 */
     struct tt_box ink;
+    uint64_t offset;  /* where the unit begins, in bytes from the start of the text */
 };
 
 /* A unit of a text in the font. */
@@ -204,6 +210,7 @@ struct tt_bitmap {
     int32_t top;      /* rows from the base line up to the upper edge of the highest row of ink */
     uint32_t width;   /* columns of ink, at most 16,384; 0, as left, top and height, where nothing is black */
     uint32_t height;  /* rows of ink, at most 4,096 */
+    int64_t advance_64ths; /* the distance of the advance's two ends as programs leave them, in 64ths of a pixel */
     uint64_t at;      /* where its rows begin, in bytes from the start of the room */
 };
 
@@ -226,6 +233,23 @@ struct tt_pen {
     uint32_t glyph;      /* 0 where the font has none for the unit */
     uint32_t advance;    /* columns to the next pen */
     int64_t pen;         /* the column of the picture, margin included */
+    uint64_t offset;     /* where the unit begins, in bytes from the start of the text */
+};
+
+/* The underline of a font at a size, by the table post. All is 0 where the font tells none. */
+struct tt_underline {
+    uint64_t exists;    /* 0: the font tells none */
+    int64_t top;        /* rows from the base line up to the upper edge, so mostly negative */
+    uint64_t thickness; /* rows, at least 1 */
+};
+
+/* A font at a size, without a text. */
+struct tt_strike {
+    int64_t rise;  /* rows of a line above its base line, without a margin */
+    int64_t depth; /* rows of a line below its base line, without a margin */
+    uint64_t gap;  /* rows between two lines, by the font's line_gap */
+    uint64_t step; /* rows from one base line to the next, at least 1 */
+    struct tt_underline underline;
 };
 
 /*
@@ -270,11 +294,21 @@ uint32_t tt_measure(const uint8_t *font, size_t font_bytes, const uint8_t *text,
                     const struct tt_job *job, struct tt_measure *told, struct tt_answer *answer);
 
 /*
- * The place of each unit of a text in its picture. count: units.
+ * The place of each unit of a text in its picture. A piece of the text from the offset of a unit up to the next one, or
+ * from the last one to the end, has that unit alone. count: units.
  */
 uint32_t tt_characters(const uint8_t *font, size_t font_bytes, const uint8_t *text, size_t text_bytes,
                        const struct tt_job *job, struct tt_character *characters, size_t room,
                        struct tt_answer *answer);
+
+/*
+ * Tells a font at a size, without a text: the rows of its lines, as tt_layout tells them of each text, and its
+ * underline. The place and the thickness of the underline are each rounded to the nearest row, a half up. A font whose
+ * table post is missing, cut off or has a thickness of at most 0 tells none. Of the job kern and grow are not looked
+ * at. It takes no memory.
+ */
+uint32_t tt_strike(const uint8_t *font, size_t font_bytes, const struct tt_job *job, struct tt_strike *told,
+                   struct tt_answer *answer);
 
 /*
  * Lays out a text, and draws no ink: the size of the picture that does not grow, its base line, and the rows to a next
@@ -287,7 +321,8 @@ uint32_t tt_layout(const uint8_t *font, size_t font_bytes, const uint8_t *text, 
                    const struct tt_job *job, struct tt_layout *told, struct tt_answer *answer);
 
 /*
- * The pen of each unit of a text, in order, as tt_layout lays the text out. The first pen is the margin; each other is
+ * The pen of each unit of a text, in order, as tt_layout lays the text out, and offsets as tt_characters has them.
+ * The first pen is the margin; each other is
  * the pen before it and the advance there. The room holds as many entries as the text has units, which are at most as
  * many as its bytes. It takes some memory. count: units.
  */
@@ -319,17 +354,34 @@ uint32_t tt_draw_band(const uint8_t *font, size_t font_bytes, const uint8_t *tex
  * Line i begins in texts where the line before it ends, and ends before ends[i]. rows gets the rows of all lines one
  * after the other, and lines[i] describes line i.
  *
+ * Where the job's blank is not 0, a line without a byte is blank: a picture of no column and no row, whose base line is
+ * 0, in no byte of rows. Then tt_strike tells how far the next line is. Else such a line is drawn as tt_draw draws it,
+ * which without a margin refuses it (62).
+ *
  * With TT_BEST the lines of a call share a budget. A line after which no budget is left is still drawn; the next one is
  * refused with number 65.
  *
- * A refused line stops the call: count lines before it are drawn, in bytes bytes of rows, and all memory after these is
- * unchanged. With TT_ROOM bytes is the room that these lines and the next one need. Where ends[i] is less than the end
- * before it or more than text_bytes, the line is refused with number 67. Where the way to fit, size, margin and font
- * are accepted and lines_room is less than ends_count, nothing is drawn, with TT_ROOM, bytes 0 and count ends_count.
+ * A refused line stops the call: count lines before it are drawn, in bytes bytes of rows, and all memory after these
+ * is unchanged. With TT_ROOM bytes is the room that these lines and the next one need; tt_lines_room tells that of all
+ * lines. Where ends[i] is less than the end before it or more than text_bytes, the line is refused with number 67.
+ * Where the way to fit, size, margin and font are accepted and lines_room is less than ends_count, nothing is drawn,
+ * with TT_ROOM, bytes 0 and count ends_count.
  */
 uint32_t tt_draw_lines(const uint8_t *font, size_t font_bytes, const uint8_t *texts, size_t text_bytes,
                        const uint64_t *ends, size_t ends_count, const struct tt_job *job, size_t keep, uint8_t *rows,
                        size_t room, struct tt_line *lines, size_t lines_room, struct tt_answer *answer);
+
+/*
+ * The room that tt_draw_lines needs for the rows of all lines, before there is any. Job and lines are as there. bytes
+ * is the exact number: this room is enough, and each smaller one is answered with TT_ROOM. count: lines.
+ * Bytes past 2^64 - 1 are told as 2^64 - 1.
+ *
+ * A refused line stops the call as it stops tt_draw_lines: count is the lines before it, and bytes are those of their
+ * rows. The call makes the glyphs as tt_draw_lines does, and no row.
+ */
+uint32_t tt_lines_room(const uint8_t *font, size_t font_bytes, const uint8_t *texts, size_t text_bytes,
+                       const uint64_t *ends, size_t ends_count, const struct tt_job *job, size_t keep,
+                       struct tt_answer *answer);
 
 /*
  * Makes the bitmaps of a list of glyphs by their numbers, at most 4,096: those that a shaper gives, in the order of the
@@ -337,6 +389,9 @@ uint32_t tt_draw_lines(const uint8_t *font, size_t font_bytes, const uint8_t *te
  * and face count; margin, grow, kern and rounded are not looked at.
  *
  * told gets count entries: entry i is that of glyphs[i]. An entry whose number stood before is equal to the first one.
+ * With TT_BEST advance is advance_64ths rounded to the nearest pixel, a half up, or 0 where that is negative. Else
+ * advance is the font's own at this size, and advance_64ths that of the outline that was made.
+ *
  * rows gets the rows of the numbers that stand first, one glyph after the other, each the highest row first. A row has
  * (width + 7) / 8 bytes. The leftmost pixel is the highest bit of the first byte; 1 is black, and the bits after the
  * last pixel are 0. Row i of a glyph, counted from 0, is top - 1 - i rows above the base line. All rows have at most
