@@ -1,6 +1,7 @@
 /* Compares the advances of glyphs in 64ths with those of FreeType's interpreter of version 35: advances FONT SIZE. Both
- * run the font's programs for black and white. A glyph counts where tt_glyphs fits it and FreeType loads it. Prints how
- * many of the first glyphs count, how many advances differ, and the first glyph that differs with both.
+ * run the font's programs for black and white. FreeType rounds what the programs leave to whole pixels, so ours is
+ * rounded too. A glyph counts where tt_glyphs fits it and FreeType loads it. Prints how many of the first glyphs count,
+ * how many advances differ, and the first glyph that differs with both.
  */
 #include <inttypes.h>
 #include <stdio.h>
@@ -41,6 +42,12 @@ static FT_Face opened(size_t bytes, FT_UInt size, FT_Int32 *how) {
   return face;
 }
 
+/* An advance in whole pixels, a half upwards. */
+static long in_pixels(int64_t advance) {
+  long above = (long)advance + 32;
+  return above >= 0 ? above / 64 : -((63 - above) / 64);
+}
+
 int main(int count, char **words) {
   if (count != 3) stop("want FONT SIZE");
   FILE *file = fopen(words[1], "rb");
@@ -64,7 +71,7 @@ int main(int count, char **words) {
     for (uint32_t i = 0; i < some; i++) {
       if (bitmaps[i].status != TT_DONE || bitmaps[i].number != 0 || FT_Load_Glyph(face, from + i, how)) continue;
       tried++;
-      if (bitmaps[i].advance_64ths == face->glyph->advance.x) continue;
+      if (in_pixels(bitmaps[i].advance_64ths) == face->glyph->advance.x / 64) continue;
       if (apart++ > 0) continue;
       first = from + i;
       ours = (long)bitmaps[i].advance_64ths;

@@ -276,7 +276,7 @@ def examples(room):
 def made_pictures(room):
     """Tries docs/pictures/make: each picture is the one that git tracks."""
     make = room.path / "docs/pictures/make"
-    fonts = re.findall(r"=(\w+/[\w-]+\.ttf)$", make.read_text(), re.M) if make.exists() else []
+    fonts = re.findall(r"=([\w/-]+\.ttf)$", make.read_text(), re.M) if make.exists() else []
     missing = [it for it in ("pnmcat", "pnmenlarge", "pnmtopng", "pngtopnm") if not shutil.which(it)]
     missing += [it for it in fonts if not os.path.exists(f"{FONTS}/{it}")]
     if missing:
