@@ -4,8 +4,10 @@ use Rattle.std.specs.Prelude.{All, IfSome}
 use Rattle.tt_box.proofs.RowsFit.{fits_as, room_of}
 use Rattle.tt_box.specs.Boxes.{BoxPlace, laid_if_fits}
 use Rattle.tt_box.specs.Views.{FillsBox}
+use Rattle.tt_core.specs.Directory.{HasNo}
 use Rattle.tt_face.specs.Faces.{Face}
 use Rattle.tt_label.specs.Gathered.{gathered, units_glyphs}
+use Rattle.tt_label.specs.Label.{label_glyphs}
 use Rattle.tt_label.specs.Views.{placements_of}
 use Rattle.tt_label.proofs.RowsPlaced.{of_placements, placed_have, text_rows_have}
 use Rattle.tt_label.proofs.UnitGlyphs.{its_units, units_have}
@@ -20,6 +22,7 @@ use Rattle.tt_picture.specs.Unfitted.{unfitted_standing}
 use Rattle.tt_rows.specs.declared.unit.RowUnit.{RowUnit}
 use Rattle.tt_strike.specs.Costs.{line_cost}
 use Rattle.tt_strike.specs.declared.laid.Laid.{Laid}
+use Rattle.tt_strike.specs.Defects.{IsLineDefect}
 use Rattle.tt_strike.specs.Job.{Job}
 use Rattle.tt_strike.specs.Made.{AreMade}
 use Rattle.tt_strike.proofs.Made.{reported_as_made}
@@ -28,9 +31,9 @@ pub filled : (face : Face) (a : Job) (b : BoxPlace) (o : Option Picture) (made :
     → IfSome o (λ (p : Picture). (p.frame.width ≡ b.width) × (p.frame.height ≡ b.height))
     → IfSome o (λ (p : Picture). p.unfitted ≡ unfitted_standing made) → IfSome o (λ (p : Picture). p.cost ≡ n)
     → AreMade face a (gathered (units_glyphs face a)) made → line_cost face a (gathered (units_glyphs face a)) ≡ Ok n
-    → IfSome o (FillsBox face a b)
-filled face a b None made n ready sides unfitted cost are is = tt
-filled face a b (Some p) made n ready sides unfitted cost are is =
+    → HasNo (IsLineDefect face a (label_glyphs face.cmap a.text)) → IfSome o (FillsBox face a b)
+filled face a b None made n ready sides unfitted cost are is sound = tt
+filled face a b (Some p) made n ready sides unfitted cost are is sound =
     let told = reported_as_made face a (gathered (units_glyphs face a)) made p.unfitted are unfitted in record {
       ready = ready;
       width = sides.0;
@@ -38,6 +41,7 @@ filled face a b (Some p) made n ready sides unfitted cost are is =
       report = told.0;
       once = told.1;
       cost = rw cost is;
+      sound = sound;
     }
 
 -- facts of the glyphs of the text hold for the rows in the box

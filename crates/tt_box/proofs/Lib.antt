@@ -1,3 +1,4 @@
+pub mod Defects
 pub mod Filled
 pub mod Greatest
 pub mod NoneCut

@@ -1,3 +1,4 @@
 pub mod BoxLaws
 pub mod Boxes
+pub mod Defects
 pub mod Views

@@ -6,8 +6,10 @@ use Rattle.tt_box.specs.declared.boxing.BoxLabel.{BoxLabel}
 use Rattle.tt_box.specs.declared.boxing.SizeStep.{SizeStep}
 use Rattle.tt_box.specs.declared.place.LabelBox.{LabelBox}
 use Rattle.tt_box.specs.declared.trying.TriedSize.{TriedSize}
+use Rattle.tt_core.specs.Directory.{HasNo}
 use Rattle.tt_face.specs.Faces.{Face}
 use Rattle.tt_label.specs.Gathered.{gathered, units_glyphs}
+use Rattle.tt_label.specs.Label.{label_glyphs}
 use Rattle.tt_label.specs.Views.{placements_of}
 use Rattle.tt_line.specs.declared.line.Line.{Line}
 use Rattle.tt_line.specs.Layout.{Placement}
@@ -15,6 +17,7 @@ use Rattle.tt_line.specs.Outcome.{placement_of}
 use Rattle.tt_picture.specs.Pictures.{Image, IsReady, Picture, image_of}
 use Rattle.tt_picture.specs.Unfitted.{ListsOnce}
 use Rattle.tt_strike.specs.Costs.{line_cost}
+use Rattle.tt_strike.specs.Defects.{IsLineDefect}
 use Rattle.tt_strike.specs.declared.laid.Laid.{Laid}
 use Rattle.tt_strike.specs.Job.{Job}
 use Rattle.tt_strike.specs.Report.{line_report}
@@ -50,7 +53,7 @@ pub record AreBoxed (b : BoxPlace) (lines : List Laid) : Type 0 where
   pub margins : All (λ l. l.margin ≡ b.margin) lines
   pub sizes : All (λ l. (l.width ≡ b.width) × (l.height ≡ b.height)) (placements_of lines)
 
--- a picture that fills a box, with the report and the cost of all glyphs of the text of a job
+-- a picture that fills a box, with the report and the cost of all glyphs of the text of a job, which have no defect
 pub record FillsBox (face : Face) (a : Job) (b : BoxPlace) (p : Picture) : Type 0 where
   pub ready : IsReady p
   pub width : p.frame.width ≡ b.width
@@ -58,3 +61,4 @@ pub record FillsBox (face : Face) (a : Job) (b : BoxPlace) (p : Picture) : Type 
   pub report : line_report face a (gathered (units_glyphs face a)) ≡ Ok p.unfitted
   pub once : ListsOnce p.unfitted
   pub cost : line_cost face a (gathered (units_glyphs face a)) ≡ Ok p.cost
+  pub sound : HasNo (IsLineDefect face a (label_glyphs face.cmap a.text))

@@ -2,13 +2,17 @@
 
 ghost use Rattle.std.specs.Prelude.{◌≡◌, ℕ, ◌+◌, ◌≤◌, ◌^◌, Ok, IfOk, IfSome};
 ghost use Rattle.tt_box.specs.Boxes.{box_outcome, is_too_high, least_size, left_after, size_tried, step_at};
+ghost use Rattle.tt_box.specs.Defects.{IsTriedDefect};
 ghost use Rattle.tt_box.specs.Views.{FillsBox, boxed_view, place_of, step_view, tried_view};
+ghost use Rattle.tt_core.specs.Directory.{HasNo};
 ghost use Rattle.tt_core.specs.Limits.{size_limit};
-ghost use Rattle.tt_core.specs.Outcomes.{GivesUnless};
+ghost use Rattle.tt_core.specs.Outcomes.{GivesUnless, IfTold, draw_font_fault};
 ghost use Rattle.tt_label.specs.Gathered.{gathered, units_glyphs};
+ghost use Rattle.tt_label.specs.Label.{label_glyphs};
 ghost use Rattle.tt_picture.specs.Pictures.{IsReady};
 ghost use Rattle.tt_picture.specs.Unfitted.{ListsOnce};
 ghost use Rattle.tt_strike.specs.Costs.{line_cost};
+ghost use Rattle.tt_strike.specs.Defects.{IsLineDefect};
 ghost use Rattle.tt_strike.specs.Job.{job_for};
 ghost use Rattle.tt_strike.specs.Refusals.{refusal};
 ghost use Rattle.tt_strike.specs.Report.{line_report};
@@ -77,6 +81,7 @@ fn try_at(
     requires high { ppem ≤ size_limit }
     ensures exact { GivesUnless refusal tried_view result (size_tried source.now.face.now (job_for ppem source.now.fit text.now place.margin) (place_of place)) }
     ensures fills { IfOk result (λ t. IfSome t.picture (FillsBox source.now.face.now (job_for ppem source.now.fit text.now place.margin) (place_of place))) }
+    ensures defects { IfTold draw_font_fault result (IsLineDefect source.now.face.now (job_for ppem source.now.fit text.now place.margin) (label_glyphs source.now.face.now.cmap text.now)) }
 {
     let mut sized = SizedFace::new(source.alloc, source.face, ppem, source.fit)?;
     try_size(&mut sized, text, place)
@@ -102,6 +107,7 @@ fn next_size(
     requires work { IfSome left (λ n. n ≤ 2 ^ 40) }
     ensures exact { GivesUnless refusal step_view result (step_at source.now.face.now (job_for ppem source.now.fit text.now place.margin) (place_of place) left) }
     ensures fills { IfOk result (λ t. IfSome t.picture (FillsBox source.now.face.now (job_for ppem source.now.fit text.now place.margin) (place_of place))) }
+    ensures defects { IfTold draw_font_fault result (IsLineDefect source.now.face.now (job_for ppem source.now.fit text.now place.margin) (label_glyphs source.now.face.now.cmap text.now)) }
     ensures bound { IfOk result (λ t. (most : ℕ) → IfSome left (λ n. n ≤ most) → IfSome t.left (λ n. n ≤ most + 4000000)) }
 {
     if is_too_high(source.face, ppem, place) {
@@ -142,6 +148,8 @@ pub fn label_in_box(
     ensures once { IfOk result (λ r. IfSome r (λ l. ListsOnce l.picture.unfitted)) }
     ensures cost { IfOk result (λ r. IfSome r (λ l. line_cost source.now.face.now (job_for l.ppem source.now.fit text.now place.margin)
         (gathered (units_glyphs source.now.face.now (job_for l.ppem source.now.fit text.now place.margin))) ≡ Ok l.picture.cost)) }
+    ensures sound { IfOk result (λ r. IfSome r (λ l. HasNo (IsLineDefect source.now.face.now (job_for l.ppem source.now.fit text.now place.margin) (label_glyphs source.now.face.now.cmap text.now)))) }
+    ensures defects { IfTold draw_font_fault result (IsTriedDefect source.now.face.now source.now.fit source.now.ppem (label_glyphs source.now.face.now.cmap text.now)) }
 {
     test_margin(place.margin)?;
     test_text(text)?;

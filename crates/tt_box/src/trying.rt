@@ -4,17 +4,18 @@ ghost use Rattle.std.specs.Prelude.{◌≡◌, ℕ, map, All, IfOk, IfSome, Opti
 ghost use Rattle.tt_bitmap.specs.declared.ink.LeastBox.{LeastBox};
 ghost use Rattle.tt_box.specs.Boxes.{begun_cost, is_inside, shown_in_box, size_tried};
 ghost use Rattle.tt_box.specs.Views.{AreBoxed, FillsBox, place_of, shown_of, tried_view};
-ghost use Rattle.tt_core.specs.Outcomes.{GivesUnless};
+ghost use Rattle.tt_core.specs.Outcomes.{GivesUnless, IfTold, draw_font_fault};
 ghost use Rattle.tt_face.specs.Faces.{Face};
 ghost use Rattle.tt_fit.specs.Fitting.{Fitter};
 ghost use Rattle.tt_label.specs.Begun.{HasStage};
-ghost use Rattle.tt_label.specs.Label.{label_ink};
+ghost use Rattle.tt_label.specs.Label.{label_glyphs, label_ink};
 ghost use Rattle.tt_label.specs.Views.{placements_of};
 ghost use Rattle.tt_picture.specs.Glyphs.{AreDrawn, numbers_of};
 ghost use Rattle.tt_picture.specs.Lines.{HasGlyphsOf};
 ghost use Rattle.tt_picture.specs.Pictures.{IsReady};
 ghost use Rattle.tt_picture.specs.Unfitted.{unfitted_standing};
 ghost use Rattle.tt_strike.specs.Costs.{cost_of};
+ghost use Rattle.tt_strike.specs.Defects.{IsLineDefect};
 ghost use Rattle.tt_strike.specs.Job.{Job};
 ghost use Rattle.tt_strike.specs.Refusals.{refusal};
 ghost use Rattle.tt_strike.specs.Strikes.{job_by};
@@ -103,6 +104,7 @@ pub(crate) fn try_size(
 ) -> Result<TriedSize, DrawFault>
     ensures exact { GivesUnless refusal tried_view result (size_tried sized.old.face (job_by sized.old text.now place.margin) (place_of place)) }
     ensures fills { IfOk result (λ t. IfSome t.picture (FillsBox sized.old.face (job_by sized.old text.now place.margin) (place_of place))) }
+    ensures defects { IfTold draw_font_fault result (IsLineDefect sized.old.face (job_by sized.old text.now place.margin) (label_glyphs sized.old.face.cmap text.now)) }
 {
     let alloc = sized.alloc();
     let mut cache = Cache::absent();

@@ -3,13 +3,15 @@
 ghost use Rattle.std.specs.Prelude.{◌≡◌, ◌<◌, ◌≤◌, true, false, length, map, chars, All, Ok, Err, IfOk, pos};
 ghost use Rattle.std.specs.List.{sum_by};
 ghost use Rattle.tt_core.specs.Limits.{margin_limit, text_limit};
-ghost use Rattle.tt_core.specs.Outcomes.{GivesUnless, IfTold};
+ghost use Rattle.tt_core.specs.Outcomes.{GivesUnless, IfTold, draw_font_fault};
 ghost use Rattle.tt_fit.specs.Fitting.{Fitter};
 ghost use Rattle.tt_label.specs.Begun.{HasFinish, IsBegun, begun_outcome};
 ghost use Rattle.tt_label.specs.Gathered.{AreReady, gathered, units_glyphs, units_made};
+ghost use Rattle.tt_label.specs.Label.{label_glyphs};
 ghost use Rattle.tt_line.specs.Outcome.{placement_of};
 ghost use Rattle.tt_picture.specs.Cached.{limit_of};
 ghost use Rattle.tt_rows.specs.Rows.{one_at_least};
+ghost use Rattle.tt_strike.specs.Defects.{IsLineDefect, TellsDefects};
 ghost use Rattle.tt_strike.specs.Job.{tested};
 ghost use Rattle.tt_strike.specs.Made.{shapes_made};
 ghost use Rattle.tt_strike.specs.Picture.{setting_in};
@@ -78,6 +80,7 @@ fn begin_by_steps(
     requires text { length (chars text.now) ≤ text_limit }
     ensures begun { IfOk result (IsBegun sized.old.face (job_by sized.old text.now margin)) }
     ensures stops { IfTold refusal result (λ r. units_made sized.old.face (job_by sized.old text.now margin) ≡ Err r) }
+    ensures defects { TellsDefects draw_font_fault (IsLineDefect sized.old.face (job_by sized.old text.now margin) (label_glyphs sized.old.face.cmap text.now)) result }
     ensures same { sized.new ≡ sized.old }
 {
     let source = sized.source;
@@ -107,6 +110,7 @@ fn begin_by_advances(
     requires text { length (chars text.now) ≤ text_limit }
     ensures begun { IfOk result (IsBegun sized.old.face (job_by sized.old text.now margin)) }
     ensures stops { IfTold refusal result (λ r. units_made sized.old.face (job_by sized.old text.now margin) ≡ Err r) }
+    ensures defects { TellsDefects draw_font_fault (IsLineDefect sized.old.face (job_by sized.old text.now margin) (label_glyphs sized.old.face.cmap text.now)) result }
     ensures cache { IsCacheOf sized.old cache.new }
     ensures limit { limit_of cache.new ≡ limit_of cache.old }
     ensures same { sized.new ≡ sized.old }
@@ -134,6 +138,7 @@ pub fn begin_label(
     requires cache { IsCacheOf sized.old cache.old }
     ensures begun { IfOk result (IsBegun sized.old.face (job_by sized.old text.now margin)) }
     ensures stops { IfTold refusal result (λ r. begun_outcome sized.old.face (job_by sized.old text.now margin) ≡ Err r) }
+    ensures defects { TellsDefects draw_font_fault (IsLineDefect sized.old.face (job_by sized.old text.now margin) (label_glyphs sized.old.face.cmap text.now)) result }
     ensures cache { IsCacheOf sized.old cache.new }
     ensures limit { limit_of cache.new ≡ limit_of cache.old }
     ensures same { sized.new ≡ sized.old }
@@ -162,6 +167,7 @@ pub fn finish_label(
         → AreReady sized.old.face (job_by sized.old text.now line.now.margin) s (units_glyphs sized.old.face (job_by sized.old text.now line.now.margin)) g.made.items g.cost) }
     ensures stops { IfTold refusal result (λ r. shapes_made sized.old.face (job_by sized.old text.now line.now.margin)
         (gathered (units_glyphs sized.old.face (job_by sized.old text.now line.now.margin))) ≡ Err r) }
+    ensures font { IfTold draw_font_fault result (λ _. ⊥) }
     ensures cache { IsCacheOf sized.old cache.new }
     ensures limit { limit_of cache.new ≡ limit_of cache.old }
     ensures same { sized.new ≡ sized.old }

@@ -3,8 +3,9 @@
 ghost use Rattle.std.specs.List.{sum_by};
 ghost use Rattle.std.specs.Prelude.{◌≡◌, ℕ, ◌+◌, ◌-◌, ◌*◌, ◌≤◌, length, map, All, Bool, Ok, IfOk, Option};
 ghost use Rattle.tt_core.specs.Limits.{margin_limit, size_limit, text_limit, width_limit};
-ghost use Rattle.tt_core.specs.Outcomes.{GivesUnless, JobGives};
+ghost use Rattle.tt_core.specs.Outcomes.{GivesUnless, IfTold, JobGives, draw_font_fault};
 ghost use Rattle.tt_label.specs.Gathered.{gathered, units_glyphs};
+ghost use Rattle.tt_label.specs.Label.{label_glyphs};
 ghost use Rattle.tt_label.specs.RowViews.{AreRows, cut_view, rows_view};
 ghost use Rattle.tt_label.specs.Widths.{cut_left, cut_right, laid_in_width, rows_drawn, upright, width_outcome};
 ghost use Rattle.tt_bitmap.specs.declared.ink.LeastBox.{LeastBox};
@@ -17,6 +18,7 @@ ghost use Rattle.tt_picture.specs.Pictures.{IsPictureFrame, IsReady, image, imag
 ghost use Rattle.tt_picture.specs.Unfitted.{ListsOnce, unfitted_standing};
 ghost use Rattle.tt_rows.specs.Rows.{one_at_least};
 ghost use Rattle.tt_strike.specs.Costs.{line_cost};
+ghost use Rattle.tt_strike.specs.Defects.{IsLineDefect, TellsDefects};
 ghost use Rattle.tt_strike.specs.Refusals.{refusal};
 ghost use Rattle.tt_strike.specs.Report.{line_report};
 ghost use Rattle.tt_strike.specs.Strikes.{IsCacheOf, job_by, job_of};
@@ -171,6 +173,7 @@ fn draw_rows(
     ensures width { IfOk result (λ w. w.picture.frame.width ≡ width) }
     ensures unfitted { IfOk result (λ w. w.picture.unfitted ≡ unfitted_standing inked.now.glyphs.made.items) }
     ensures cost { IfOk result (λ w. w.picture.cost ≡ inked.now.glyphs.cost) }
+    ensures font { IfTold draw_font_fault result (λ _. ⊥) }
 {
     let LaidRows {
         picture: place,
@@ -207,6 +210,7 @@ fn draw_in_width(
     ensures report { IfOk result (λ w. line_report sized.old.face (job_by sized.old text.now margin) (gathered (units_glyphs sized.old.face (job_by sized.old text.now margin))) ≡ Ok w.picture.unfitted) }
     ensures once { IfOk result (λ w. ListsOnce w.picture.unfitted) }
     ensures cost { IfOk result (λ w. line_cost sized.old.face (job_by sized.old text.now margin) (gathered (units_glyphs sized.old.face (job_by sized.old text.now margin))) ≡ Ok w.picture.cost) }
+    ensures defects { TellsDefects draw_font_fault (IsLineDefect sized.old.face (job_by sized.old text.now margin) (label_glyphs sized.old.face.cmap text.now)) result }
     ensures cache { IsCacheOf sized.old cache.new }
     ensures limit { limit_of cache.new ≡ limit_of cache.old }
     ensures same { sized.new ≡ sized.old }
@@ -254,6 +258,7 @@ pub fn label_in_width(
     ensures report { IfOk result (λ w. line_report strike.old.face (job_of strike.old text.now margin) (gathered (units_glyphs strike.old.face (job_of strike.old text.now margin))) ≡ Ok w.picture.unfitted) }
     ensures once { IfOk result (λ w. ListsOnce w.picture.unfitted) }
     ensures cost { IfOk result (λ w. line_cost strike.old.face (job_of strike.old text.now margin) (gathered (units_glyphs strike.old.face (job_of strike.old text.now margin))) ≡ Ok w.picture.cost) }
+    ensures defects { TellsDefects draw_font_fault (IsLineDefect strike.old.face (job_of strike.old text.now margin) (label_glyphs strike.old.face.cmap text.now)) result }
     ensures same { strike.new ≡ record strike.old { kept = strike.new.kept } }
 {
     draw_in_width(

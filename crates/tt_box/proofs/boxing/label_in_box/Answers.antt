@@ -1,7 +1,9 @@
 use Rattle.std.proofs.Common.{◌≡◌, refl, ◌≤◌, None, arith}
 use Rattle.std.proofs.lemmas.Result.{err_from_is_err_and}
+use Rattle.tt_box.proofs.Defects.{met_in_box}
 use Rattle.tt_box.proofs.Sizes.{box_empty, box_found, box_margin, box_stops, box_text, first_on, least_is_low, next_on, work_bounded}
 use Rattle.tt_box.specs.Views.{place_of, shown_of, step_view}
+use Rattle.tt_label.specs.Label.{label_glyphs}
 use Rattle.tt_picture.specs.Pictures.{image_of}
 use Rattle.tt_strike.specs.Job.{job_for}
 use Rattle.tt_box.proofs.boxing.label_in_box.Goals as goal
@@ -40,6 +42,14 @@ returns-in_err-size-clause-exact c =
     rw (p.1, p.2) (box_stops s.face.now s.fit s.ppem c.args.text.now (place_of c.args.place) c.least_size-least.result c.loop-ppem.ppem c.loop-ppem.left
     c.in_err-size.field-0.0 c.in_ok-test_margin.ensures.exact c.in_ok-test_text.ensures.exact c.least_size-least.ensures c.loop-ppem.invariant
     c.loop-ppem-test.true c.in_err-size.ensures.exact)
+
+pub returns-in_err-size-clause-defects : goal.returns-in_err-size-clause-defects
+returns-in_err-size-clause-defects c =
+    let s = c.args.source.now in
+    let p = err_from_is_err_and c.from_residual-in_err-size.result c.from_residual-in_err-size.ensures.1 in
+    rw (p.1, p.2) (met_in_box s.face.now s.fit s.ppem c.args.text.now c.args.place.margin c.least_size-least.result c.loop-ppem.ppem
+    (label_glyphs s.face.now.cmap c.args.text.now) c.in_err-size.field-0.0 c.least_size-least.ensures c.loop-ppem-test.true
+    c.loop-ppem.invariant.high c.in_err-size.ensures.defects)
 
 pub returns-in-Some-clause-exact : goal.returns-in-Some-clause-exact
 returns-in-Some-clause-exact c =

@@ -24,6 +24,11 @@ returns-in_err-size-clause-exact c =
     rw (p.1, p.2, c.in-Some.is) (step_stops s.face.now (job_for c.args.ppem s.fit c.args.text.now c.args.place.margin) (place_of c.args.place)
     c.in-Some.work c.in_err-size.field-0.0 (sym c.is_too_high.ensures ∙ c.if-is_too_high.false) c.in_err-size.ensures.exact)
 
+pub returns-in_err-size-clause-defects : goal.returns-in_err-size-clause-defects
+returns-in_err-size-clause-defects c =
+    let p = err_from_is_err_and c.from_residual.result c.from_residual.ensures.1 in
+    rw (p.1, p.2) c.in_err-size.ensures.defects
+
 pub returns-clause-exact : goal.returns-clause-exact
 returns-clause-exact c =
     let s = c.args.source.now in

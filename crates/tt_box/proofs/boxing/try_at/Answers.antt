@@ -16,3 +16,6 @@ returns-clause-exact c = rw c.in_ok-sized.ensures.exact at c.try_size.ensures.ex
 
 pub returns-clause-fills : goal.returns-clause-fills
 returns-clause-fills c = rw c.in_ok-sized.ensures.exact at c.try_size.ensures.fills
+
+pub returns-clause-defects : goal.returns-clause-defects
+returns-clause-defects c = rw c.in_ok-sized.ensures.exact at c.try_size.ensures.defects

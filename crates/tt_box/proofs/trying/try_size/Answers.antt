@@ -17,6 +17,7 @@ use Rattle.tt_picture.specs.Glyphs.{numbers_of}
 use Rattle.tt_strike.specs.Measures.{line_ink}
 use Rattle.tt_strike.specs.Strikes.{SizedFace, job_by}
 use Rattle.tt_strike.specs.Work.{line_fitter}
+use Rattle.tt_strike.proofs.Stopped.{no_defect_told}
 use Rattle.tt_box.proofs.trying.try_size.Goals.{After-row_heights-heights, In-Some, In_ok-glyphs}
 use Rattle.tt_box.proofs.trying.try_size.Goals as goal
 
@@ -95,6 +96,16 @@ returns-in_err-glyphs-clause-exact c =
     (unready_at z c.args.text.now c.args.place.margin c.in_ok-begun.begun.gathered.margin c.in_err-glyphs.field-0.0 h.margin
     (rw c.begin_label.ensures.same at c.in_err-glyphs.ensures.stops)))
 
+pub returns-in_err-begun-clause-defects : goal.returns-in_err-begun-clause-defects
+returns-in_err-begun-clause-defects c =
+    let p = err_from_is_err_and c.from_residual.result c.from_residual.ensures.1 in
+    rw (p.1, p.2) c.in_err-begun.ensures.defects
+
+pub returns-in_err-glyphs-clause-defects : goal.returns-in_err-glyphs-clause-defects
+returns-in_err-glyphs-clause-defects c =
+    let p = err_from_is_err_and c.from_residual-in_err-glyphs.result c.from_residual-in_err-glyphs.ensures.1 in
+    rw (p.1, p.2) (no_defect_told _ c.in_err-glyphs.field-0.0 c.in_err-glyphs.ensures.font)
+
 pub returns-clause-exact : goal.returns-clause-exact
 returns-clause-exact c =
     let at = goal.at.returns-clause-exact c in
@@ -119,4 +130,4 @@ returns-clause-fills c =
     let a = job_by z c.args.text.now c.args.place.margin in
     let ready = ready_then at.In_ok-glyphs in
     filled z.face a (place_of c.args.place) c.in_ok-picture.picture c.in_ok-glyphs.glyphs.made.items c.in_ok-glyphs.glyphs.cost c.in_ok-picture.ensures.valid
-    c.in_ok-picture.ensures.sides c.in_ok-picture.ensures.unfitted c.in_ok-picture.ensures.cost ready.drawn ready.cost
+    c.in_ok-picture.ensures.sides c.in_ok-picture.ensures.unfitted c.in_ok-picture.ensures.cost ready.drawn ready.cost c.in_ok-begun.ensures.defects

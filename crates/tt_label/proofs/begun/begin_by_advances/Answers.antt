@@ -1,10 +1,11 @@
-use Rattle.std.proofs.Common.{◌≡◌, ◌∙◌, ◌<◌, ◌≤◌, ℕ, ap, length, sym, refl, arith}
+use Rattle.std.proofs.Common.{◌≡◌, ◌∙◌, ◌<◌, ◌≤◌, ℕ, ap, length, map, sym, refl, arith}
 use Rattle.std.proofs.lemmas.List.{length-map}
 use Rattle.std.proofs.lemmas.Result.{err_from_is_err_and}
 use Rattle.tt_core.specs.Limits.{text_limit}
 use Rattle.tt_label.specs.Gathered.{gathered, units_glyphs}
+use Rattle.tt_label.specs.Label.{label_glyphs}
 use Rattle.tt_label.proofs.UnitsMade.{count_as_many, lines_as_short, rows_as_few, shapes_make_units, shapes_stop_units, stopped_textless, unbounded_step}
-use Rattle.tt_label.proofs.UnitGlyphs.{as_many_glyphs, at_zero, glyphs_have, its_units, zero_have, zero_pens}
+use Rattle.tt_label.proofs.UnitGlyphs.{as_many_glyphs, at_zero, glyphs_have, its_units, text_has, zero_have, zero_numbers, zero_pens}
 use Rattle.tt_label_rows.specs.Units.{all_glyphs, text_units}
 use Rattle.tt_line.specs.Layout.{Placement}
 use Rattle.tt_line.specs.Outcome.{placement_of}
@@ -39,6 +40,14 @@ line_then c =
     let flat : c.in_ok-all_glyphs.field-0.items ≡ at_zero (all_glyphs (its_units c.in_ok-units.units.items)) = rw c.deref-2.ensures.value at c.in_ok-all_glyphs.ensures in
     c.gathered_line-gathered.ensures.line ∙ rw (flat, units) refl
 
+-- its glyphs are those of the lines of the text
+label_numbers : (c : After-gathered_line-gathered) → map (λ (g : ℕ × ℕ). g.0) c.gathered_line-gathered.result.line.glyphs.items
+    ≡ label_glyphs c.sized.inside.source.face.now.cmap c.args.text.now
+label_numbers c =
+    let cmap = c.sized.inside.source.face.now.cmap in
+    ap (λ (l : Placement). map (λ (g : ℕ × ℕ). g.0) l.glyphs) (line_then c) ∙ zero_numbers (all_glyphs (text_units cmap c.args.text.now))
+    ∙ text_has cmap c.args.text.now
+
 pub tested_glyphs-requires-clause-known : goal.tested_glyphs-requires-clause-known
 tested_glyphs-requires-clause-known c =
     let all = goal.at.tested_glyphs-requires-clause-known c in
@@ -58,6 +67,19 @@ returns-in_err-glyphs-clause-stops c =
     rw (p.1, p.2) (shapes_stop_units z.face a c.in_err-glyphs.field-0.0 c.requires.unbounded
     (stopped_textless z c.args.text.now c.args.margin c.gathered_line-gathered.result.margin (units_glyphs z.face a)
     (placement_of c.gathered_line-gathered.result.line) c.in_err-glyphs.field-0.0 c.gathered_line-gathered.ensures.margin line c.in_err-glyphs.ensures.stops))
+
+pub returns-in_err-glyphs-clause-defects : goal.returns-in_err-glyphs-clause-defects
+returns-in_err-glyphs-clause-defects c =
+    let all = goal.at.returns-in_err-glyphs-clause-defects c in
+    let met = rw (← c.sized.view_is, label_numbers all.After-gathered_line-gathered) at c.in_err-glyphs.ensures.defects in
+    let p = err_from_is_err_and c.from_residual-in_err-glyphs.result c.from_residual-in_err-glyphs.ensures.1 in
+    rw (p.1, p.2, ← c.sized.view_is) met
+
+pub returns-clause-defects : goal.returns-clause-defects
+returns-clause-defects c =
+    let all = goal.at.returns-clause-defects c in
+    let none = rw (← c.sized.view_is, label_numbers all.After-gathered_line-gathered) at c.in_ok-glyphs.ensures.defects in
+    rw (← c.sized.view_is) none
 
 pub returns-clause-begun : goal.returns-clause-begun
 returns-clause-begun c =

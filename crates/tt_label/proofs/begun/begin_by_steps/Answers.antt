@@ -5,8 +5,9 @@ use Rattle.std.specs.Prelude.{All}
 use Rattle.tt_core.specs.Limits.{text_limit}
 use Rattle.tt_fit.specs.Fitting.{Fitter}
 use Rattle.tt_label.specs.Gathered.{units_glyphs}
+use Rattle.tt_label.specs.Label.{label_glyphs}
 use Rattle.tt_label.proofs.UnitsMade.{bounded_step, count_as_many, lines_as_short, outlines_make_units, outlines_stop_units, rows_as_few}
-use Rattle.tt_label.proofs.UnitGlyphs.{as_many_glyphs, at_zero, glyphs_have, its_units, units_have, zero_had, zero_have, zero_numbers, zero_pens}
+use Rattle.tt_label.proofs.UnitGlyphs.{as_many_glyphs, at_zero, glyphs_have, its_units, text_has, units_have, zero_had, zero_have, zero_numbers, zero_pens}
 use Rattle.tt_label_rows.specs.Units.{all_glyphs, text_units}
 use Rattle.tt_metrics.specs.Metrics.{glyphs_of}
 use Rattle.tt_picture.specs.Distinct.{distinct, is_among}
@@ -93,6 +94,24 @@ returns-in_err-fitted-clause-stops c =
     let fails = rw (← c.sized.view_is, c.deref-2.ensures.value, text_numbers all.In_ok-glyphs) at c.in_err-fitted.ensures.stops in
     let p = err_from_is_err_and c.from_residual-in_err-fitted.result c.from_residual-in_err-fitted.ensures.1 in
     rw (p.1, p.2, ← c.sized.view_is) (outlines_stop_units z.face a c.in_err-fitted.field-0.0 bounded fails)
+
+-- they are those of its lines
+label_numbers : (c : In_ok-glyphs) → map (λ (g : ℕ × ℕ). g.0) c.in_ok-glyphs.glyphs.items
+    ≡ label_glyphs c.sized.inside.source.face.now.cmap c.args.text.now
+label_numbers c = text_numbers c ∙ text_has c.sized.inside.source.face.now.cmap c.args.text.now
+
+pub returns-in_err-fitted-clause-defects : goal.returns-in_err-fitted-clause-defects
+returns-in_err-fitted-clause-defects c =
+    let all = goal.at.returns-in_err-fitted-clause-defects c in
+    let met = rw (← c.sized.view_is, c.deref-2.ensures.value, label_numbers all.In_ok-glyphs) at c.in_err-fitted.ensures.defects in
+    let p = err_from_is_err_and c.from_residual-in_err-fitted.result c.from_residual-in_err-fitted.ensures.1 in
+    rw (p.1, p.2, ← c.sized.view_is) met
+
+pub returns-clause-defects : goal.returns-clause-defects
+returns-clause-defects c =
+    let all = goal.at.returns-clause-defects c in
+    let none = rw (← c.sized.view_is, c.deref-2.ensures.value, label_numbers all.In_ok-glyphs) at c.in_ok-fitted.ensures.defects in
+    rw (← c.sized.view_is) none
 
 pub gathered_line-requires-clause-few : goal.gathered_line-requires-clause-few
 gathered_line-requires-clause-few c = few_then (goal.at.gathered_line-requires-clause-few c).In_ok-glyphs

@@ -4,6 +4,7 @@ use Rattle.tt_face.specs.Faces.{Face}
 use Rattle.tt_label.specs.Gathered.{AreReady, gathered, units_glyphs}
 use Rattle.tt_label.specs.RowViews.{cut_view, rows_view}
 use Rattle.tt_label.specs.Widths.{rows_in_width}
+use Rattle.tt_label.proofs.ByStep.{size_tells_no_defect}
 use Rattle.tt_label.proofs.RowsDrawn.{begun_stops_width, drawn_gives_width, finish_at, ready_at, rows_given, rows_stop_width, shapes_stop_width, text_among, text_drawn, text_inks, unready_at}
 use Rattle.tt_label.proofs.RowsPlaced.{rows_have}
 use Rattle.tt_label.proofs.UnitGlyphs.{its_units}
@@ -17,6 +18,7 @@ use Rattle.tt_strike.specs.Report.{line_report}
 use Rattle.tt_strike.specs.Strikes.{SizedFace, job_by}
 use Rattle.tt_strike.specs.Work.{line_fitter}
 use Rattle.tt_strike.proofs.Made.{reported_as_made}
+use Rattle.tt_strike.proofs.Stopped.{no_defect_told}
 use Rattle.tt_label.proofs.widths.draw_in_width.Goals.{After-ppem-ppem, In_ok-glyphs, In_ok-label, In_ok-rows}
 use Rattle.tt_label.proofs.widths.draw_in_width.Goals as goal
 
@@ -118,6 +120,30 @@ returns-in_err-label-clause-exact c =
     (begun_is z.face a s h.tested h.made) (rows_then at.In_ok-rows (metrics_then at.After-ppem-ppem) (size_then at.After-ppem-ppem)) ready
     (c.in_err-label.ensures.exact (line_ink s (gathered gs)) (line_fitter s gs) c.args.margin inks
     (text_drawn z.face a s gs made c.in_ok-glyphs.glyphs.cost ready) c.in_ok-rows.ensures.rows.margins))
+
+-- the units meet each defect, and what comes after them meets none
+pub returns-in_err-begun-clause-defects : goal.returns-in_err-begun-clause-defects
+returns-in_err-begun-clause-defects c =
+    let p = err_from_is_err_and c.from_residual.result c.from_residual.ensures.1 in
+    rw (p.1, p.2) c.in_err-begun.ensures.defects
+
+pub returns-in_err-rows-clause-defects : goal.returns-in_err-rows-clause-defects
+returns-in_err-rows-clause-defects c =
+    let p = err_from_is_err_and c.from_residual-in_err-rows.result c.from_residual-in_err-rows.ensures.1 in
+    rw (p.1, p.2) (size_tells_no_defect rows_view _ _ c.in_err-rows.field-0.0 c.in_err-rows.ensures.exact)
+
+pub returns-in_err-glyphs-clause-defects : goal.returns-in_err-glyphs-clause-defects
+returns-in_err-glyphs-clause-defects c =
+    let p = err_from_is_err_and c.from_residual-in_err-glyphs.result c.from_residual-in_err-glyphs.ensures.1 in
+    rw (p.1, p.2) (no_defect_told _ c.in_err-glyphs.field-0.0 c.in_err-glyphs.ensures.font)
+
+pub returns-in_err-label-clause-defects : goal.returns-in_err-label-clause-defects
+returns-in_err-label-clause-defects c =
+    let p = err_from_is_err_and c.from_residual-in_err-label.result c.from_residual-in_err-label.ensures.1 in
+    rw (p.1, p.2) (no_defect_told _ c.in_err-label.field-0.0 c.in_err-label.ensures.font)
+
+pub returns-clause-defects : goal.returns-clause-defects
+returns-clause-defects c = c.in_ok-begun.ensures.defects
 
 pub returns-clause-exact : goal.returns-clause-exact
 returns-clause-exact c =

@@ -5,6 +5,7 @@ use Rattle.tt_label.specs.Label.{grown_lines, joint, some_line_shows}
 use Rattle.tt_label.specs.RowViews.{cut_view, rows_view}
 use Rattle.tt_label.specs.Views.{placements_of}
 use Rattle.tt_label.specs.Widths.{upright}
+use Rattle.tt_label.proofs.ByStep.{size_tells_no_defect}
 use Rattle.tt_label.proofs.Larger.{first_frame}
 use Rattle.tt_label.proofs.RowsDrawn.{alike_larger, among_larger, growth_stops_rows, rows_as_drawn, some_larger, width_larger}
 use Rattle.tt_label.proofs.Shown.{are_lines, placed_image}
@@ -69,6 +70,11 @@ returns-in_err-larger-clause-exact c = λ ink maker margin inks drawn margins.
     let fails = rw c.upright.ensures at c.in_err-larger.ensures.exact in
     rw (p.1, p.2) (growth_stops_rows (λ (v : Vec Laid Global). placements_of v.items) cut_view ink maker margin c.args.width (rows_view c.args.rows) c.label_ink-ink.result c.in_err-larger.field-0.0
     (own ink margin inks margins) fails)
+
+pub returns-in_err-larger-clause-font : goal.returns-in_err-larger-clause-font
+returns-in_err-larger-clause-font c =
+    let p = err_from_is_err_and c.from_residual.result c.from_residual.ensures.1 in
+    rw (p.1, p.2) (size_tells_no_defect (λ (v : Vec Laid Global). placements_of v.items) _ _ c.in_err-larger.field-0.0 c.in_err-larger.ensures.exact)
 
 pub returns-clause-exact : goal.returns-clause-exact
 returns-clause-exact c = λ ink maker margin inks drawn margins.

@@ -10,6 +10,9 @@ returns-clause-report c = rw (← c.strike.view_is) c.draw_in_width.ensures.repo
 pub returns-clause-cost : goal.returns-clause-cost
 returns-clause-cost c = rw (← c.strike.view_is) c.draw_in_width.ensures.cost
 
+pub returns-clause-defects : goal.returns-clause-defects
+returns-clause-defects c = rw (← c.strike.view_is) c.draw_in_width.ensures.defects
+
 pub invariant_of-strike : goal.invariant_of-strike
 invariant_of-strike c =
     let before = c.strike.invariant in (
