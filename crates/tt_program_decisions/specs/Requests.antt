@@ -22,7 +22,7 @@ use Rattle.tt_render.specs.Labels.{FontLabelGives, FontLabelsGive, HintsBy, comp
 use Rattle.tt_render_settings.specs.declared.setting.Setting.{Setting}
 use Rattle.tt_render_settings.specs.declared.space.Space.{Space}
 use Rattle.tt_render_settings.specs.Spaces.{space_asked}
-use Rattle.tt_render.specs.LabelSpaces.{ClaimsIfFree}
+use Rattle.tt_render.specs.LabelSpaces.{ClaimsIfSized}
 use Rattle.tt_render_lines.specs.LayoutTexts.{FontLayoutGives, IsLayoutDefect}
 use Rattle.tt_render_settings.specs.LinesDefects.{IsTextDefect, LinesTellDefectsOf}
 use Rattle.tt_render_run.specs.MapLines.{map_wanted}
@@ -339,12 +339,12 @@ Performs (Layout font text setting) folder closed t lines p e status =
 Performs (Label font text options output) folder closed t lines p e status =
     (l : DrawnLabel) × IsLabelFor font.now options l
     × DoesLabel (λ drawn told. FontLabelGives (places p.shown) l text.now drawn.answer p.font told
-    × ClaimsIfFree l.space (TextTellsDefectsOf p.font.left_before (IsTextDefect composed_glyphs l.setting text.now) drawn.answer)
+    × ClaimsIfSized l.space (TextTellsDefectsOf p.font.left_before (IsTextDefect composed_glyphs l.setting text.now) drawn.answer)
     × IfSome p.font.left_before (HintsBy l drawn)) l folder closed e status
 Performs (Labels font options output) folder closed t lines p e status =
     (l : DrawnLabel) × IsLabelFor font.now options l
     × DoesLabel (λ drawn told. FontLabelsGive (places p.shown) l drawn.answer (reader_in p.font) p.lines told
-    × ClaimsIfFree l.space (LinesTellDefectsOf composed_glyphs p.font.left_before l.setting p.lines.left_before drawn.answer)
+    × ClaimsIfSized l.space (LinesTellDefectsOf composed_glyphs p.font.left_before l.setting p.lines.left_before drawn.answer)
     × IfSome p.font.left_before (HintsBy l drawn)) l folder closed e status
 Performs (Bdf asked) folder closed t lines p e status = PerformsBdf (bdf_view asked) folder closed t e status
 

@@ -1,5 +1,5 @@
 -- No part of the standard: the picture of a text as a label in the requested space, by a font at a size (profile).
-use Rattle.std.specs.Prelude.{◌≡◌, ℕ, List, Some, None, Result, Ok, Err}
+use Rattle.std.specs.Prelude.{◌≡◌, ℕ, Bool, true, List, Some, None, Result, Ok, Err}
 use Rattle.tt_core.specs.Outcomes.{◌>>=◌}
 use Rattle.tt_face.specs.Faces.{Face}
 use Rattle.tt_label.specs.Gathered.{gathered, units_glyphs}
@@ -56,10 +56,14 @@ label_image l s text =
     as_misfit (space_tested l.space l.setting.margin) >>= λ u.
     as_text (image_in l.space s.face (job_of s text l.setting.margin) l.align)
 
--- a claim about the defects of a font, of labels that have the space that they need. Of rows in a width nothing is claimed
--- but what their definition says
-abbrev pub ClaimsIfFree : Space → Type 0 → Type 0
-ClaimsIfFree s Claim = s ≡ space.Free → Claim
+-- the size of a label is the requested one: of a label that is as large as its lines, and of rows in a width
+abbrev pub has_size : Space → Bool
+has_size space.Free = true
+has_size (space.Width n) = true
+
+-- a claim about the defects of a font, of labels of the requested size
+abbrev pub ClaimsIfSized : Space → Type 0 → Type 0
+ClaimsIfSized s Claim = has_size s ≡ true → Claim
 
 -- the space of a label is refused, and its size and its margin are not
 abbrev pub IsMisfit : {V : Type 0} → Label → Result V TextsFault → Type 0

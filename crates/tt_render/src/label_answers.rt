@@ -4,7 +4,7 @@ ghost use Rattle.std.specs.Prelude.{◌≡◌, ◌≤◌, length, string_bytes, 
 ghost use Rattle.tt_core.specs.Limits.{font_limit};
 ghost use Rattle.tt_core.specs.Outcomes.{GivesUnless};
 ghost use Rattle.tt_render.specs.Labels.{CanGoOut, TellsLabel, composed_answer, composed_glyphs, face_number, label_answer, label_notes, label_view};
-ghost use Rattle.tt_render.specs.LabelSpaces.{ClaimsIfFree};
+ghost use Rattle.tt_render.specs.LabelSpaces.{ClaimsIfSized};
 ghost use Rattle.tt_render_settings.specs.LinesDefects.{IsDefectBy};
 ghost use Rattle.tt_label.specs.Label.{label_glyphs};
 ghost use Rattle.tt_render_settings.specs.TextsOutcome.{IsOfText, refusal_font_fault, told, without_line};
@@ -67,7 +67,7 @@ fn answer_composed<'n>(
     ensures valid { IfOk result CanGoOut }
     ensures report { IfOk result (TellsLabel number) }
     ensures serves { IsOfText (without_line result) }
-    ensures defects { ClaimsIfFree asked.now.space (TellsDefects refusal_font_fault (IsDefectBy label_glyphs asked.now.setting strike.old text.now) (without_line result)) }
+    ensures defects { ClaimsIfSized asked.now.space (TellsDefects refusal_font_fault (IsDefectBy label_glyphs asked.now.setting strike.old text.now) (without_line result)) }
     ensures same { strike.new ≡ record strike.old { kept = strike.new.kept } }
 {
     let drawn = label_picture(strike, asked, text)?;
@@ -108,7 +108,7 @@ pub(crate) fn answer_label<'n>(
     ensures valid { IfOk result CanGoOut }
     ensures report { IfOk result (TellsLabel number) }
     ensures serves { IsOfText (without_line result) }
-    ensures defects { ClaimsIfFree asked.now.space (TellsDefects refusal_font_fault (IsDefectBy composed_glyphs asked.now.setting strike.old text.now) (without_line result)) }
+    ensures defects { ClaimsIfSized asked.now.space (TellsDefects refusal_font_fault (IsDefectBy composed_glyphs asked.now.setting strike.old text.now) (without_line result)) }
     ensures same { strike.new ≡ record strike.old { kept = strike.new.kept } }
 {
     test_job(&asked.setting.job(text))?;

@@ -8,7 +8,7 @@ ghost use Rattle.tt_render_streams.specs.Formed.{formed_bytes};
 ghost use Rattle.tt_render_streams.specs.Traffic.{traffic_of};
 ghost use Rattle.tt_render_streams.specs.Reading.{font_reader_of};
 ghost use Rattle.tt_render.specs.Labels.{CanGoOut, FileLabelsGive, FontLabelGives, FontLabelsGive, HintsBy, IsNotSent, LabelReadies, LabelsGive, TellsLabel, composed_glyphs, hint_for, label_answer, label_notes, label_view, line_labelled};
-ghost use Rattle.tt_render.specs.LabelSpaces.{ClaimsIfFree};
+ghost use Rattle.tt_render.specs.LabelSpaces.{ClaimsIfSized};
 ghost use Rattle.tt_render_texts.specs.Lines.{line_limit};
 ghost use Rattle.tt_render_settings.specs.LinesDefects.{IsDefectBy, IsTextDefect, LinesTell, LinesTellDefects, LinesTellDefectsOf};
 ghost use Rattle.tt_render_settings.specs.Help.{label_lines_of};
@@ -105,7 +105,7 @@ fn draw<'n>(
     requires notes { notes.now ≡ label_notes asked.now file.now }
     requires tested { tested (job_by asked.now.setting text.now) ≡ Ok tt }
     ensures outcome { LabelReadies (λ s. label_answer asked.now s text.now) (strike_of asked.now.setting file.now) result }
-    ensures defects { ClaimsIfFree asked.now.space (TextTellsDefects (IsTextDefect composed_glyphs asked.now.setting text.now file.now) result) }
+    ensures defects { ClaimsIfSized asked.now.space (TextTellsDefects (IsTextDefect composed_glyphs asked.now.setting text.now file.now) result) }
     ensures valid { IfOk result CanGoOut }
     ensures report { IfOk result (TellsLabel None) }
 {
@@ -140,7 +140,7 @@ pub fn draw_label<R: Source, P: Pictures, E: Sink>(
     // Either the call stopped before the text was drawn, and did nothing else. Or the font was read to its end and
     // opened, and the writing and printing are as defined for the label by that font.
     ensures outcome { FontLabelGives (places P.shown) asked.now text.now result.answer (traffic_of R.left R.has_failed P.written P.has_failed font.old font.new out.old out.new) (errors_of E.written E.has_failed error.old error.new) }
-    ensures defects { ClaimsIfFree asked.now.space (TextTellsDefectsOf (R.left font.old) (IsTextDefect composed_glyphs asked.now.setting text.now) result.answer) }
+    ensures defects { ClaimsIfSized asked.now.space (TextTellsDefectsOf (R.left font.old) (IsTextDefect composed_glyphs asked.now.setting text.now) result.answer) }
     ensures hint { IfSome (R.left font.old) (HintsBy asked.now result) }
 {
     if let Some(fault) = refused_space(asked) {
@@ -187,7 +187,7 @@ fn draw_line<'n>(
     ensures valid { IfOk result CanGoOut }
     ensures report { IfOk result (TellsLabel (Some number)) }
     ensures serves { IsOfText (without_line result) }
-    ensures defects { ClaimsIfFree asked.now.space (IfTold refusal_font_fault (without_line result) (IsDefectBy composed_glyphs asked.now.setting strike.old line.now)) }
+    ensures defects { ClaimsIfSized asked.now.space (IfTold refusal_font_fault (without_line result) (IsDefectBy composed_glyphs asked.now.setting strike.old line.now)) }
     ensures same { strike.new ≡ record strike.old { kept = strike.new.kept } }
 {
     let Ok(text) = str::from_utf8(line) else {
@@ -260,7 +260,7 @@ fn draw_labels_by<R: Source, P: Pictures, E: Sink>(
     requires error { E.has_failed error.old ≡ false }
     requires notes { notes.now ≡ label_notes asked.now strike.old.face.directory.file }
     ensures outcome { LabelsGive (places P.shown) asked.now strike.old result (traffic_of R.left R.has_failed P.written P.has_failed lines.old lines.new out.old out.new) (errors_of E.written E.has_failed error.old error.new) }
-    ensures defects { ClaimsIfFree asked.now.space (LinesTell (IsDefectBy composed_glyphs asked.now.setting strike.old) (R.left lines.old) result) }
+    ensures defects { ClaimsIfSized asked.now.space (LinesTell (IsDefectBy composed_glyphs asked.now.setting strike.old) (R.left lines.old) result) }
 {
     let mut reader = LineReader::new(alloc)?;
     let mut used = 0;
@@ -315,7 +315,7 @@ fn draw_labels_of<R: Source, P: Pictures, E: Sink>(
     requires size { length file.now ≤ font_limit }
     requires tested { setting_tested asked.now.setting ≡ Ok tt }
     ensures outcome { FileLabelsGive (places P.shown) asked.now file.now result (traffic_of R.left R.has_failed P.written P.has_failed lines.old lines.new out.old out.new) (errors_of E.written E.has_failed error.old error.new) }
-    ensures defects { ClaimsIfFree asked.now.space (LinesTellDefects composed_glyphs asked.now.setting (R.left lines.old) result file.now) }
+    ensures defects { ClaimsIfSized asked.now.space (LinesTellDefects composed_glyphs asked.now.setting (R.left lines.old) result file.now) }
 {
     let face = Face::read_with(file, asked.setting.opening)?;
     let setting = asked.setting;
@@ -351,7 +351,7 @@ pub fn draw_labels<F: Source, R: Source, P: Pictures, E: Sink>(
     ensures outcome { FontLabelsGive (places P.shown) asked.now result.answer (font_reader_of F.left F.has_failed font.old font.new) (traffic_of R.left R.has_failed P.written P.has_failed lines.old lines.new out.old out.new) (errors_of E.written E.has_failed error.old error.new) }
     // A font's fault in an answer is a defect of the font: of the tables needed for every text, or of the data that the
     // numbered line is drawn from.
-    ensures defects { ClaimsIfFree asked.now.space (LinesTellDefectsOf composed_glyphs (F.left font.old) asked.now.setting (R.left lines.old) result.answer) }
+    ensures defects { ClaimsIfSized asked.now.space (LinesTellDefectsOf composed_glyphs (F.left font.old) asked.now.setting (R.left lines.old) result.answer) }
     ensures hint { IfSome (F.left font.old) (HintsBy asked.now result) }
 {
     if let Some(why) = refused_space(asked) {

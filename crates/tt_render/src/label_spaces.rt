@@ -3,7 +3,7 @@
 ghost use Rattle.std.specs.Prelude.{◌≡◌, Ok, IfOk};
 ghost use Rattle.tt_core.specs.Outcomes.{GivesUnless};
 ghost use Rattle.tt_label.specs.Label.{label_glyphs};
-ghost use Rattle.tt_render.specs.LabelSpaces.{ClaimsIfFree, cost_in, cut_view, label_image, report_in};
+ghost use Rattle.tt_render.specs.LabelSpaces.{ClaimsIfSized, cost_in, cut_view, label_image, report_in};
 ghost use Rattle.tt_render_settings.specs.LinesDefects.{IsDefectBy};
 ghost use Rattle.tt_render_settings.specs.TextsOutcome.{IsOfText, refusal_font_fault, told, without_line};
 ghost use Rattle.tt_render_streams.specs.picture.Pictures.{IsReady};
@@ -35,7 +35,7 @@ pub(crate) fn label_picture(
     ensures report { IfOk result (λ l. report_in asked.now.space strike.old.face (job_of strike.old text.now asked.now.setting.margin) asked.now.align ≡ Ok l.picture.unfitted) }
     ensures cost { IfOk result (λ l. cost_in asked.now.space strike.old.face (job_of strike.old text.now asked.now.setting.margin) asked.now.align ≡ Ok l.picture.cost) }
     ensures serves { IsOfText (without_line result) }
-    ensures defects { ClaimsIfFree asked.now.space (TellsDefects refusal_font_fault (IsDefectBy label_glyphs asked.now.setting strike.old text.now) (without_line result)) }
+    ensures defects { ClaimsIfSized asked.now.space (TellsDefects refusal_font_fault (IsDefectBy label_glyphs asked.now.setting strike.old text.now) (without_line result)) }
     ensures same { strike.new ≡ record strike.old { kept = strike.new.kept } }
 {
     match test_space(asked)? {

@@ -46,25 +46,25 @@ returns-clause-outcome c =
     c.in-Err.ensures.serves)
 
 pub returns-in_err-face-clause-defects : goal.returns-in_err-face-clause-defects
-returns-in_err-face-clause-defects c = λ free.
+returns-in_err-face-clause-defects c = λ sized.
     let p = err_from_is_err_and c.from_residual.result c.from_residual.ensures.1 in
     rw (p.1, p.2) (inl c.in_err-face.ensures.fault)
 
 pub returns-in_err-strike-clause-defects : goal.returns-in_err-strike-clause-defects
-returns-in_err-strike-clause-defects c = λ free.
+returns-in_err-strike-clause-defects c = λ sized.
     let p = err_from_is_err_and c.from_residual-in_err-strike.result c.from_residual-in_err-strike.ensures.1 in
     rw (p.1, p.2) (strike_tells ReadyLabel (IsTextDefect composed_glyphs c.args.asked.now.setting c.args.text.now c.args.file.now)
     c.in_err-strike.field-0.0 c.in_err-strike.ensures.font)
 
 pub returns-in-Ok-clause-defects : goal.returns-in-Ok-clause-defects
-returns-in-Ok-clause-defects c = λ free.
-    let none = rw c.in_ok-strike.ensures.exact at (c.in-Ok.ensures.defects free) in
+returns-in-Ok-clause-defects c = λ sized.
+    let none = rw c.in_ok-strike.ensures.exact at (c.in-Ok.ensures.defects sized) in
     none_in_file composed_glyphs c.args.asked.now.setting c.args.text.now c.args.file.now c.in_ok-face.face
     c.in_ok-face.ensures.exact c.in_ok-face.ensures.sound none
 
 pub returns-clause-defects : goal.returns-clause-defects
-returns-clause-defects c = λ free.
-    let stands = rw c.in_ok-strike.ensures.exact at (c.in-Err.ensures.defects free) in
+returns-clause-defects c = λ sized.
+    let stands = rw c.in_ok-strike.ensures.exact at (c.in-Err.ensures.defects sized) in
     rw c.texts_fault.ensures (text_tells ReadyLabel composed_glyphs c.args.asked.now.setting c.args.text.now c.args.file.now
     c.in_ok-face.face c.in-Err.fault.refusal c.in_ok-face.ensures.exact stands c.in-Err.ensures.serves)
 

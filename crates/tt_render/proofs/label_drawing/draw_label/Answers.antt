@@ -170,12 +170,12 @@ returns-clause-hint g c =
     (λ file. put_hints c.in-Err-put.fault file c.args.asked.now.setting.opening.reading))
 
 pub returns-in-Err-clause-defects : goal.returns-in-Err-clause-defects
-returns-in-Err-clause-defects g c = λ free.
+returns-in-Err-clause-defects g c = λ sized.
     rw c.unhinted-in-Err.ensures (job_tells (g.R.Source.left c.args.font.now)
     (IsTextDefect composed_glyphs c.args.asked.now.setting c.args.text.now) c.in-Err.fault)
 
 pub returns-in-Err-read_font-clause-defects : goal.returns-in-Err-read_font-clause-defects
-returns-in-Err-read_font-clause-defects g c = λ free.
+returns-in-Err-read_font-clause-defects g c = λ sized.
     let left = g.R.Source.left in
     let font = c.read_font.new.font in
     rw (c.unhinted-in-Err-read_font.ensures, c.refusal_of_run.ensures)
@@ -183,7 +183,7 @@ returns-in-Err-read_font-clause-defects g c = λ free.
     (IsTextDefect composed_glyphs c.args.asked.now.setting c.args.text.now) c.in-Err-read_font.ensures)
 
 pub returns-in-Err-notes_of-clause-defects : goal.returns-in-Err-notes_of-clause-defects
-returns-in-Err-notes_of-clause-defects g c = λ free.
+returns-in-Err-notes_of-clause-defects g c = λ sized.
     rw c.unhinted-in-Err-notes_of.ensures (if_some_all (g.R.Source.left c.args.font.now) _ (λ file. tt))
 
 pub draw-requires-clause-notes : goal.draw-requires-clause-notes
@@ -191,28 +191,28 @@ draw-requires-clause-notes g c =
     rw (c.deref-3.ensures, c.in-Ok-notes_of.ensures, c.deref.ensures.value, c.deref-2.ensures.value) refl
 
 pub returns-in-Err-draw-clause-defects : goal.returns-in-Err-draw-clause-defects
-returns-in-Err-draw-clause-defects g c = λ free.
+returns-in-Err-draw-clause-defects g c = λ sized.
     let left = g.R.Source.left in
     let file = c.in-Ok in
     let P : List ℕ → Type 0 = λ bytes. TextTellsDefects {V = Option TextsFault}
     (IsTextDefect composed_glyphs c.args.asked.now.setting c.args.text.now bytes) (Err c.in-Err-draw.fault) in
-    let tells = subst P c.deref-2.ensures.value (c.in-Err-draw.ensures.defects free) in
+    let tells = subst P c.deref-2.ensures.value (c.in-Err-draw.ensures.defects sized) in
     rw c.hinted.ensures
     (known_of (left c.args.font.now) (left c.read_font.new.font) file.file.items P file.ensures.0 file.ensures.1 tells)
 
 pub returns-in-Ok-put-clause-defects : goal.returns-in-Ok-put-clause-defects
-returns-in-Ok-put-clause-defects g c = λ free.
+returns-in-Ok-put-clause-defects g c = λ sized.
     let left = g.R.Source.left in
     let file = c.in-Ok in
-    let tells = rw c.deref-2.ensures.value at (c.in-Ok-draw.ensures.defects free) in
+    let tells = rw c.deref-2.ensures.value at (c.in-Ok-draw.ensures.defects sized) in
     rw c.done.ensures
     (known_of (left c.args.font.now) (left c.read_font.new.font) file.file.items _ file.ensures.0 file.ensures.1 tells)
 
 pub returns-clause-defects : goal.returns-clause-defects
-returns-clause-defects g c = λ free.
+returns-clause-defects g c = λ sized.
     let left = g.R.Source.left in
     let file = c.in-Ok in
-    let none = rw c.deref-2.ensures.value at (c.in-Ok-draw.ensures.defects free) in
+    let none = rw c.deref-2.ensures.value at (c.in-Ok-draw.ensures.defects sized) in
     let P : List ℕ → Type 0 = λ bytes. TellsFor (IsTextDefect composed_glyphs c.args.asked.now.setting c.args.text.now bytes)
     (refusal_of_put c.in-Err-put.fault) in
     rw (c.unhinted-in-Err-put.ensures, c.refusal_of_put.ensures)

@@ -93,12 +93,12 @@ returns-clause-hint g c =
     file.ensures.0 file.ensures.1 (rw (c.hinted.ensures, c.deref-in-Err-draw_labels_of.ensures.value) refl)
 
 pub returns-in-Err-clause-defects : goal.returns-in-Err-clause-defects
-returns-in-Err-clause-defects g c = λ free.
+returns-in-Err-clause-defects g c = λ sized.
     rw c.unhinted-in-Err.ensures (setting_tells (Option TextsFault) composed_glyphs (g.F.Source.left c.args.font.now)
     c.args.asked.now.setting (g.R.Source.left c.args.lines.now) c.in-Err.fault)
 
 pub returns-in-Err-read_font-clause-defects : goal.returns-in-Err-read_font-clause-defects
-returns-in-Err-read_font-clause-defects g c = λ free.
+returns-in-Err-read_font-clause-defects g c = λ sized.
     let left = g.F.Source.left in
     let font = c.read_font.new.font in
     rw (c.unhinted-in-Err-read_font.ensures, c.refusal_of_run.ensures)
@@ -106,16 +106,16 @@ returns-in-Err-read_font-clause-defects g c = λ free.
     (g.F.Source.has_failed font) c.args.asked.now.setting (g.R.Source.left c.args.lines.now) c.in-Err-read_font.ensures)
 
 pub returns-in-Ok-draw_labels_of-clause-defects : goal.returns-in-Ok-draw_labels_of-clause-defects
-returns-in-Ok-draw_labels_of-clause-defects g c = λ free.
+returns-in-Ok-draw_labels_of-clause-defects g c = λ sized.
     rw c.done.ensures (if_some_all (g.F.Source.left c.args.font.now) _ (λ file. tt))
 
 pub returns-clause-defects : goal.returns-clause-defects
-returns-clause-defects g c = λ free.
+returns-clause-defects g c = λ sized.
     let left = g.F.Source.left in
     let file = c.in-Ok in
     let fault = c.in-Err-draw_labels_of.fault in
     let Tells : List _ → Type 0 = λ bytes. LinesTellDefects {V = Option TextsFault} composed_glyphs c.args.asked.now.setting
     (g.R.Source.left c.args.lines.now) (Err fault) bytes in
-    let tells = subst Tells c.deref.ensures.value (c.in-Err-draw_labels_of.ensures.defects free) in
+    let tells = subst Tells c.deref.ensures.value (c.in-Err-draw_labels_of.ensures.defects sized) in
     rw c.hinted.ensures
     (known_of (left c.args.font.now) (left c.read_font.new.font) file.file.items Tells file.ensures.0 file.ensures.1 tells)

@@ -171,7 +171,7 @@ returns-in_err-first-in-Err-draw_line-clause-outcome g c =
 
 pub returns-in_err-first-in-Err-draw_line-clause-defects :
     goal.returns-in_err-first-in-Err-draw_line-clause-defects
-returns-in_err-first-in-Err-draw_line-clause-defects g c = λ free.
+returns-in_err-first-in-Err-draw_line-clause-defects g c = λ sized.
     let so_far = c.loop-before.invariant in
     let l = c.args.asked.now in
     let a = l.setting in
@@ -183,7 +183,7 @@ returns-in_err-first-in-Err-draw_line-clause-defects g c = λ free.
     let why = c.in-Err-draw_line.refused.refusal in
     let found = rw c.in-Ok-Line.field-0-is at c.in-Ok-Line.ensures.outcome in
     let Tells : Strike → Type 0 = λ s. IfSome (refusal_font_fault why) (IsDefectBy composed_glyphs a s line) in
-    let is = subst Tells so_far.strike (rw c.line-line.ensures at (c.in-Err-draw_line.ensures.defects free)) in
+    let is = subst Tells so_far.strike (rw c.line-line.ensures at (c.in-Err-draw_line.ensures.defects sized)) in
     let IsOne = IsDefectBy composed_glyphs a c.args.strike.now in
     let p = err_from_is_err_and c.from_residual-in_err-first-in-Err-draw_line.result
     c.from_residual-in_err-first-in-Err-draw_line.ensures.1 in

@@ -58,23 +58,23 @@ draw_labels_by-requires-clause-notes g c =
     rw (c.deref.ensures, c.in_ok-notes.ensures, c.in_ok-strike.ensures.exact) (ap (λ bytes. label_notes l bytes) file)
 
 pub returns-in_err-face-clause-defects : goal.returns-in_err-face-clause-defects
-returns-in_err-face-clause-defects g c = λ free.
+returns-in_err-face-clause-defects g c = λ sized.
     let p = err_from_is_err_and c.from_residual.result c.from_residual.ensures.1 in
     rw (p.1, p.2) c.in_err-face.ensures.fault
 
 pub returns-in_err-strike-clause-defects : goal.returns-in_err-strike-clause-defects
-returns-in_err-strike-clause-defects g c = λ free.
+returns-in_err-strike-clause-defects g c = λ sized.
     let p = err_from_is_err_and c.from_residual-in_err-strike.result c.from_residual-in_err-strike.ensures.1 in
     rw (p.1, p.2) (strike_tells (Option TextsFault) composed_glyphs (Some c.args.file.now) c.args.asked.now.setting
     (g.R.Source.left c.args.lines.now) c.in_err-strike.field-0.0 c.in_err-strike.ensures.font)
 
 pub returns-in_err-notes-clause-defects : goal.returns-in_err-notes-clause-defects
-returns-in_err-notes-clause-defects g c = λ free.
+returns-in_err-notes-clause-defects g c = λ sized.
     let p = err_from_is_err_and c.from_residual-in_err-notes.result c.from_residual-in_err-notes.ensures.1 in
     rw (p.1, p.2) tt
 
 pub returns-clause-defects : goal.returns-clause-defects
-returns-clause-defects g c = λ free.
-    let tells = rw c.in_ok-strike.ensures.exact at (c.draw_labels_by.ensures.defects free) in
+returns-clause-defects g c = λ sized.
+    let tells = rw c.in_ok-strike.ensures.exact at (c.draw_labels_by.ensures.defects sized) in
     lines_tell composed_glyphs c.args.asked.now.setting c.args.file.now c.in_ok-face.face (g.R.Source.left c.args.lines.now)
     c.draw_labels_by.result c.in_ok-face.ensures.exact tells

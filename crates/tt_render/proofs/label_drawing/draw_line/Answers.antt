@@ -15,5 +15,5 @@ returns-clause-exact c =
     rw drawn c.answer_label.ensures.exact
 
 pub returns-clause-defects : goal.returns-clause-defects
-returns-clause-defects c = λ free.
-    told_of_text _ (without_line c.answer_label.result) (rw c.in-Ok.ensures.cases.0 at (c.answer_label.ensures.defects free))
+returns-clause-defects c = λ sized.
+    told_of_text _ (without_line c.answer_label.result) (rw c.in-Ok.ensures.cases.0 at (c.answer_label.ensures.defects sized))
