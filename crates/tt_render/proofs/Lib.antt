@@ -1,3 +1,4 @@
+mod BoxedLabels
 mod LabelCalls
 mod LabelLines
 mod LabelTexts
