@@ -45,7 +45,9 @@
  *
  * tt_label reports the alignment (72) after the way to fit, and the box (70) and the width (69) after the margin. Then it
  * reports what tt_draw does with grow, but never an empty picture (62). With a width the picture's size comes after the
- * glyphs, whatever the way to fit, and again after the crossings, of the picture with rows for its ink.
+ * glyphs, whatever the way to fit, and again after the crossings, of the picture with rows for its ink. With a box it
+ * reports the glyphs of one size after the other, from the greatest down, and where rows fit their crossings. Before a
+ * size comes the work of the sizes before it (65), and after the last a text that fits at no size (71).
  *
  * tt_glyphs reports too small a room for its entries before all else. Then it reports the way to fit, the size, and the
  * count (61); the font's size, the place of the face, its tables; loca and glyf, the font's programs, the points, the
@@ -162,15 +164,20 @@ enum {
 /*
  * A request to draw a label. size, margin, fit, kern and rounded are as in tt_job.
  *
- * Where width is 0, the picture is as large as its lines with their margins, and enlarged on each side as with grow.
+ * Where width, box_width and box_height are 0, the picture is as large as its lines with their margins, and enlarged on
+ * each side as with grow.
  *
- * Else the picture has exactly width columns. Each line is broken into rows, which fit between the margins: at blanks,
- * after hyphens, after U+200B and between ideographs; a word that is wider alone is broken within. Blanks at the end of
- * a row are not drawn. The rows stand between the margins by align. The picture is enlarged above and below so that no
- * ink is cut there. Ink past the sides is cut.
+ * With a width the picture has exactly width columns. Each line is broken into rows, which fit between the margins: at
+ * blanks, after hyphens, after U+200B and between ideographs; a word that is wider alone is broken within. Blanks at the
+ * end of a row are not drawn. The rows stand between the margins by align. The picture is enlarged above and below so
+ * that no ink is cut there. Ink past the sides is cut.
+ *
+ * With a box the picture has exactly box_width columns and box_height rows, and the text has the greatest size of at most
+ * size at which it fits: rows are broken as with a width, but no word is, all rows fit between the margins, and no ink is
+ * cut. Ink may stand in the margins. The rows stand in the middle. No size below 5 is tried, unless size is.
  */
 struct tt_label_job {
-    uint32_t size;       /* pixels per em, 1 to 300 */
+    uint32_t size;       /* pixels per em, 1 to 300; with a box the greatest that is tried */
     uint32_t margin;     /* pixels round the lines, 0 to 64 */
     uint32_t fit;        /* TT_FULL .. TT_BEST */
     uint32_t face;       /* n + 1: face n. 0: face 0 */
@@ -178,8 +185,8 @@ struct tt_label_job {
     uint32_t rounded;    /* not 0: rise and depth are each rounded to the nearest row, so that box drawing joins */
     uint32_t align;      /* TT_LEFT .. TT_RIGHT */
     uint32_t width;      /* 0, or the columns of the picture: more than both margins, at most 16,384 */
-    uint32_t box_width;  /* 0; pictures of a given size are not drawn yet, and refused (70) */
-    uint32_t box_height; /* 0 */
+    uint32_t box_width;  /* 0, or the columns of a box: more than both margins, at most 16,384; then width is 0 */
+    uint32_t box_height; /* 0, or the rows of a box: more than both margins, at most 4,096 */
 };
 
 /* A picture without its pixels. All is 0 for a blank line. */
@@ -193,8 +200,8 @@ struct tt_picture {
 
 /* A label without its pixels. */
 struct tt_label {
-    struct tt_picture picture; /* with the base line of the first line */
-    uint64_t size;             /* pixels per em that were drawn */
+    struct tt_picture picture; /* with the base line of the first row */
+    uint64_t size;             /* the size that was drawn, in pixels per em: the job's, or with a box at most that */
     uint64_t cut_left;         /* columns of ink that were cut at the left; 0 where the job's width is 0 */
     uint64_t cut_right;        /* the same at the right */
     uint64_t missing;          /* the distinct characters without a glyph, once letters are composed */
@@ -391,12 +398,12 @@ uint32_t tt_draw_band(const uint8_t *font, size_t font_bytes, const uint8_t *tex
                       struct tt_picture *told, struct tt_answer *answer);
 
 /*
- * Draws a label: a text of several lines in one picture, for people. Without a width this is the picture that the
- * program's command label writes for this font, text and job. rows and room, bytes and count are as those of tt_draw.
+ * Draws a label: a text of several lines in one picture, for people. This is the picture that the program's command
+ * label writes for this font, text and job. rows and room, bytes and count are as those of tt_draw.
  *
  * A line feed ends a line, and a carriage return just before it is no part of the line. A first U+FEFF is no part of the
  * text. A text without a character is one empty line. A picture has at least one column and one row, so that no text is
- * empty. From one base line to the next are step rows, as tt_strike tells them.
+ * empty. From one base line to the next are step rows, as tt_strike tells them for the size that was drawn.
  *
  * Two characters beside each other that are the canonical composition of one that the font has are drawn as that one, a
  * letter and its accent for instance. Nothing is reordered. The text's 4,096 characters are counted before.
@@ -482,8 +489,9 @@ uint32_t tt_message(const struct tt_answer *told, uint8_t *text, size_t room, st
 /*
  * All refusals: X(number, name). From 60 on they refuse the job; the man page of the program explains each.
  *
- * 69 to 72 come with tt_label alone. 69 WidthRange: the width is above 16,384, or at most both margins. 70 BoxRange: a
- * box is asked for. 72 UnknownAlign: align has another number. 71 BoxSmall does not come yet.
+ * 69 to 72 come with tt_label alone. 69 WidthRange: the width is above 16,384, or at most both margins. 70 BoxRange: the
+ * box has more than 16,384 columns or 4,096 rows, or at most both margins of either, or there is a width too. 71 BoxSmall:
+ * the text fits into the box at no size. 72 UnknownAlign: align has another number.
  *
  * 68 GlyphNumber comes in an entry of tt_glyphs alone. For a list of glyphs 65 counts as for a line, but for each glyph
  * once, with the rows of a picture that holds all of it.
@@ -498,7 +506,8 @@ uint32_t tt_message(const struct tt_answer *told, uint8_t *text, size_t room, st
  *     then count one. The work allows 500,000, and one for each 4 units that points and programs leave of 50,000,000. A
  *     point takes 40 units.
  *   - Lines of tt_draw_lines: those before this one took more than 10,000,000 units, and 4,000,000 for each of them. A
- *     line takes the units of its points and programs, and 4 units for each crossing.
+ *     line takes the units of its points and programs, and 4 units for each crossing. The sizes that tt_label tries for a
+ *     box are counted as such lines are.
  */
 #define TT_REFUSALS(X) \
     X(1, BadVersion) \

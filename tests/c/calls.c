@@ -74,7 +74,9 @@ static uint32_t ask_label(const struct question *q, struct room room, void *told
                                                   .kern = job->kern,
                                                   .rounded = job->rounded,
                                                   .align = q->align,
-                                                  .width = q->width},
+                                                  .width = q->width,
+                                                  .box_width = q->box_width,
+                                                  .box_height = q->box_height},
                            sizeof(struct tt_label_job));
   uint32_t status = tt_label(FONT, TEXT, (const struct tt_label_job *)label.at, room.at, room.size, told, answer);
   give_up(label);

@@ -11,7 +11,7 @@ struct question {
   struct room ends; /* of tt_draw_lines, with text and keep */
   size_t keep;
   uint32_t first, count; /* of tt_draw_band */
-  uint32_t align, width; /* of tt_label, beside what its job shares with job */
+  uint32_t align, width, box_width, box_height; /* of tt_label, beside what its job shares with job */
   struct room told;      /* of tt_message */
 };
 

@@ -44,8 +44,10 @@ def run(words, stdin=b""):
     return ended.returncode, ended.stdout, re.sub(r"(?m)^tt_render: line \d+: ", "tt_render: ", ended.stderr.decode())
 
 
-# Alignments and widths of labels, where the program draws these.
-WIDTHS = ((0, 60), (1, 33), (2, 100), (2, 7)) if b"--width" in run(["label", "--help"])[1] else ()
+# Alignments, widths and boxes of labels, where the program draws these.
+HELP = run(["label", "--help"])[1]
+WIDTHS = ((0, 60), (1, 33), (2, 100), (2, 7)) if b"--width" in HELP else ()
+BOXES = ((0, 0, 60, 30), (1, 0, 200, 41), (2, 0, 90, 90), (0, 0, 9, 5)) if b"--box" in HELP else ()
 
 
 def words_of(job):
@@ -60,22 +62,24 @@ def unfitted(stderr):
 
 
 def label_words(job):
-    """Returns the words of a label's job: size, margin, fit, align, kern, rounded, width."""
-    size, margin, fit, align, kern, rounded, width = job
+    """Returns the words of a label's job: size, margin, fit, align, kern, rounded, width, and perhaps a box."""
+    size, margin, fit, align, kern, rounded, width, *box = job
     words = [*words_of((size, margin, fit, False, kern, rounded)), "--align", ALIGNS[align]]
-    return [*words, "--width", str(width)] if width else words
+    words += ["--width", str(width)] if width else []
+    return [*words, "--box", "x".join(map(str, box))] if box else words
 
 
 def label_job(words):
     """Returns the text and the job of the words behind `label`, or None where they are not those of one job."""
-    given = {"--size": "", "--margin": "0", "--fit": "best", "--align": "left", "--width": ""}
+    given = {"--size": "", "--margin": "0", "--fit": "best", "--align": "left", "--width": "", "--box": ""}
     while len(words) > 2 and words[0].decode() in given:
         option, value, *words = words
         given[option.decode()] = value.decode()
-    size, margin, fit, align, width = given.values()
-    if len(words) != 2 or not (size + margin).isdigit() or width == "0" or words[0].startswith(b"-"):
+    size, margin, fit, align, width, box = given.values()
+    size, box = size or ("300" if box else ""), [int(it) for it in box.split("x") if it]
+    if len(words) != 2 or not (size.isdigit() and margin.isdigit()) or width == "0" or words[0].startswith(b"-"):
         return None
-    return words[1], (int(size), int(margin), fit, ALIGNS.index(align), 0, 0, int(width or 0))
+    return words[1], (int(size), int(margin), fit, ALIGNS.index(align), 0, 0, int(width or 0), *box)
 
 
 def label_answer(font, text, job):
@@ -159,7 +163,7 @@ def of_rows():
 def of_labels():
     """Yields a question for each row of tests/label and tests/printers that is one label, with the row's answer."""
     found = [(it.font, it.words, (it.status, it.stdout, it.errors)) for it in labels.rows() if it.errors is not None]
-    for table in ("composed", "width"):
+    for table in ("composed", "width", "box"):
         found += [(it.font, it.words, it.wanted) for it in printers.rows(table)]
     for font, words, (status, stdout, errors) in found:
         case = label_job(words)
@@ -178,9 +182,9 @@ def of_real_font(font):
             yield "measure", font, text, job
     for count, text in enumerate(LABELS):
         for fit in FITS:
-            for align, width in ((0, 0), (1, 0), (2, 0), *WIDTHS):
+            for align, *space in ((0, 0), (1, 0), (2, 0), *WIDTHS, *BOXES):
                 size = (9, 16, 47)[(count + align) % 3]
-                yield "label", font, text.encode(), (size, 2 * (count % 2), fit, align, count % 2, align == 1, width)
+                yield "label", font, text.encode(), (size, 2 * (count % 2), fit, align, count % 2, align == 1, *space)
         yield "label", font, text.encode(), (300, 0, "best", 0, 0, 0, 0)
     for job in ((0, 65, "best", 0, 0, 0, 0), (300, 65, "none", 2, 0, 0, 0)):
         yield "label", font, b"A", job

@@ -212,8 +212,19 @@ static void try_labels(void) {
       {"a label's bytes that are no UTF-8, and a size of 0", font, wrong, {.width = 16385}, TT_NOT_UTF8, 0},
       {"a label's size of 0, and a margin of 65", font, one, {.margin = 65, .width = 16385}, TT_JOB, 60},
       {"a label's margin of 65, and a width", font, one, {.size = 16, .margin = 65, .width = 1}, TT_JOB, 64},
-      {"a box, and a width", font, one, {.size = 16, .width = 16385, .box_width = 1}, TT_JOB, 70},
-      {"a box without a width", font, one, {.size = 16, .box_height = UINT32_MAX}, TT_JOB, 70},
+      {"a box, and a width", font, one, {.size = 16, .width = 50, .box_width = 50, .box_height = 50}, TT_JOB, 70},
+      {"a box without a column", none, large, {.size = 16, .box_height = 50}, TT_JOB, 70},
+      {"a box without a row", font, one, {.size = 16, .box_width = UINT32_MAX}, TT_JOB, 70},
+      {"a box of 16,385 columns", font, one, {.size = 16, .box_width = 16385, .box_height = 9}, TT_JOB, 70},
+      {"a box of 4,097 rows", font, one, {.size = 16, .box_width = 9, .box_height = 4097}, TT_JOB, 70},
+      {"a box as wide as both margins", font, one, {16, 9, TT_BEST, 0, 0, 0, 0, 0, 18, 50}, TT_JOB, 70},
+      {"a box as high as both margins", font, one, {16, 9, TT_BEST, 0, 0, 0, 0, 0, 50, 18}, TT_JOB, 70},
+      {"a label's margin of 65, and a box", font, one, {.size = 16, .margin = 65, .box_width = 1}, TT_JOB, 64},
+      {"a box without a size", font, one, {.box_width = 50, .box_height = 50}, TT_JOB, 60},
+      {"a box for 4,097 characters", none, large, {.size = 16, .box_width = 50, .box_height = 50}, TT_JOB, 61},
+      {"a box of one pixel", font, one, {.size = 300, .box_width = 1, .box_height = 1}, TT_JOB, 71},
+      {"a box of a font of no byte", none, one, {.size = 16, .box_width = 50, .box_height = 50}, TT_FONT, 2},
+      {"a box that is larger than its text", font, one, {.size = 16, .box_width = 50, .box_height = 50}, TT_DONE, 0},
       {"a width of 16,385", none, large, {.size = 16, .width = 16385}, TT_JOB, 69},
       {"the largest number as width", font, one, {.size = 16, .width = UINT32_MAX, .fit = TT_BEST}, TT_JOB, 69},
       {"a width of both margins", font, one, {.size = 16, .margin = 64, .width = 128}, TT_JOB, 69},
@@ -232,9 +243,13 @@ static void try_labels(void) {
     expect_answer("tt_label", status, &answer);
     expect(status == cases[i].status && answer.number == cases[i].number, "tt_label: status %u, number %u", status,
            answer.number);
-    expect(status == TT_DONE ? told.size == 16 && (cases[i].job.width == 0 || told.picture.width == cases[i].job.width)
+    const struct tt_label_job *job = &cases[i].job;
+    uint32_t width = job->width ? job->width : job->box_width;
+    expect(status == TT_DONE ? told.size == 16 && (width == 0 || told.picture.width == width) &&
+                                   (job->box_height == 0 || told.picture.height == job->box_height)
                              : told.size == 7,
-           "tt_label: status %u, and size %" PRIu64 " and %u columns are told", status, told.size, told.picture.width);
+           "tt_label: status %u, and size %" PRIu64 ", %u columns and %u rows are told", status, told.size,
+           told.picture.width, told.picture.height);
     verdict("%s", cases[i].name);
   }
   give_up(none);

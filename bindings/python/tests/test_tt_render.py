@@ -110,6 +110,29 @@ class Calls(unittest.TestCase):
             got = self.font.label("W", 16, width=5, align=align)
             self.assertEqual((got.cut_left > 0, got.cut_right > 0), tuple(map(bool, cut)))
             self.assertEqual(pixels(got.picture), [it[:5] if cut[1] else it[-5:] for it in whole])
+        for width in (9, 40, 384):
+            for text in ("one two-three", "Ǻjf\njolly good", ""):
+                words = ["--size", "16", "--margin", "2", "--width", str(width), "--align", "centre"]
+                got = self.font.label(text, 16, margin=2, width=width, align=tt_render.Align.CENTRE)
+                self.assertEqual(got.pbm(), printed("label", *words, FONT, text))
+
+    def test_label_in_box(self):
+        for text in ("Shelf 12", "quick-brown fox, Ǻjf", "a\nb", "", "e\u0301"):
+            for fit in tt_render.Fit:
+                for align, name in zip(tt_render.Align, ("left", "centre", "right")):
+                    words = ["--size", "60", "--margin", "2", "--fit", fit.name.lower(), "--align", name, "--box", "120x45"]
+                    got = self.font.label(text, 60, margin=2, fit=fit, align=align, box=(120, 45))
+                    self.assertEqual(got.pbm(), printed("label", *words, FONT, text))
+                    self.assertEqual(got[2:4], (0, 0))
+        for most in (300, 20):
+            # A word is one row, at the greatest size at which that row fits.
+            got = self.font.label("Shelf", most, box=(100, 60))
+            self.assertLessEqual(got.size, most)
+            own, other = ink(got.picture), ink(self.font.draw("Shelf", got.size))
+            self.assertEqual((own.right - own.left, own.bottom - own.top), (other.right - other.left, other.bottom - other.top))
+            self.assertEqual(self.font.label("Shelf", got.size, box=(100, 60)), got)
+            if got.size < most:
+                self.assertGreater(self.font.layout("Shelf", got.size + 1).width, 100)
 
     def test_label_misses(self):
         self.assertEqual(self.font.label("A\U0010ffff\U0010ffff\n\U0010ffff\U0010fffe", 16).missing, 2)
@@ -117,11 +140,16 @@ class Calls(unittest.TestCase):
 
     def test_refused_label(self):
         for options, number in (({"width": 16385}, 69), ({"width": -1}, 69), ({"width": 6, "margin": 3}, 69),
-                                ({"align": 3}, 72), ({"align": -1, "fit": 4}, 66), ({"margin": 65, "width": 16385}, 64)):
+                                ({"align": 3}, 72), ({"align": -1, "fit": 4}, 66), ({"margin": 65, "width": 16385}, 64),
+                                ({"box": (0, 0)}, 70), ({"box": (50, 0)}, 70), ({"box": (16385, 50)}, 70),
+                                ({"box": (50, 4097)}, 70), ({"box": (6, 50), "margin": 3}, 70), ({"box": (-1, 9)}, 70),
+                                ({"box": (50, 50), "width": 50}, 70), ({"box": (1, 1)}, 71)):
             self.assertEqual(self.refused(self.font.label, "A", 16, **options).number, number)
         self.assertEqual(self.refused(self.font.label, "A" * 4097, 16, width=3).number, 61)
         self.assertEqual(str(self.refused(self.font.label, "A", 16, width=16385)), "69 WidthRange")
         self.assertEqual(str(self.refused(self.font.label, "A", 16, align=9)), "72 UnknownAlign")
+        self.assertEqual(str(self.refused(self.font.label, "A", 16, box=(9, 0))), "70 BoxRange")
+        self.assertEqual(str(self.refused(self.font.label, "A" * 99, 16, box=(9, 9))), "71 BoxSmall")
 
     def test_options(self):
         for fit in tt_render.Fit:

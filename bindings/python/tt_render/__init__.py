@@ -51,10 +51,10 @@ class Picture(NamedTuple):
 
 
 class Label(NamedTuple):
-    """A label: its picture, with the base line of the first line, and how it was drawn.
+    """A label: its picture, with the base line of the first row, and how it was drawn.
 
-    `size` is in pixels per em. `cut_left` and `cut_right` are columns of ink that were cut, and `missing` counts the
-    distinct characters without a glyph.
+    `size` is the size that was drawn, in pixels per em. `cut_left` and `cut_right` are columns of ink that were cut, and
+    `missing` counts the distinct characters without a glyph.
     """
 
     picture: Picture
@@ -137,14 +137,18 @@ class Font:
         return c.tt_job(*numbers, bool(grow), self._face, bool(kern), bool(rounded), bool(blank))
 
     def label(self, text: str, size: int, *, margin: int = 0, fit: int = Fit.BEST, align: int = Align.LEFT,
-              width: int = 0, kern: bool = False, rounded: bool = False) -> Label:
+              width: int = 0, box: Optional[tuple[int, int]] = None, kern: bool = False, rounded: bool = False) -> Label:
         """Draws a text of several lines in one picture. The font is read widely.
 
         No ink is cut, and an empty text is a picture too. Letters and accents are composed where the font can. With a
-        `width` the picture has so many columns: lines are broken into rows, and ink past the sides is cut.
+        `width` the picture has so many columns: lines are broken into rows, and ink past the sides is cut. With a `box`,
+        its columns and rows, the picture has this size, and the text the greatest size of at most `size` at which it
+        fits: no word is broken then, and no ink is cut.
         """
-        numbers = map(c.number, (size, margin, fit))
-        job = c.tt_label_job(*numbers, self._face, bool(kern), bool(rounded), c.number(align), c.number(width))
+        numbers = [c.number(it) for it in (size, margin, fit)]
+        # A side of 0 is refused, and in C no box.
+        sides = [c.number(it or -1) for it in box or ()]
+        job = c.tt_label_job(*numbers, self._face, bool(kern), bool(rounded), c.number(align), c.number(width), *sides)
         told = c.tt_label()
         answer, rows = c.with_rows("tt_label", self._data, c.utf8_of(text), job, told)
         return c.tuple_of(Label, told, picture=c.tuple_of(Picture, told.picture, rows=rows[: answer.bytes]))

@@ -106,6 +106,9 @@ pub struct LabelJob {
     /// The columns of the picture, whose lines are then broken into rows, and whose ink past the sides is cut; or 0 for
     /// a picture as large as its lines and their ink.
     pub width: u32,
+    /// The columns and the rows of the picture, which then has the text at the greatest size of at most `size` at which
+    /// the text fits: no word is broken, and no ink is cut.
+    pub box_size: Option<(u32, u32)>,
 }
 
 impl LabelJob {
@@ -119,6 +122,7 @@ impl LabelJob {
             rounded: false,
             align: Align::Left,
             width: 0,
+            box_size: None,
         }
     }
 
@@ -131,7 +135,14 @@ impl LabelJob {
             rounded,
             align,
             width,
+            box_size,
         } = *self;
+        // In C two sides of 0 are no box. As a box they are refused.
+        let (box_width, box_height) = match box_size {
+            None => (0, 0),
+            Some((0, 0)) => (0, u32::MAX),
+            Some(sides) => sides,
+        };
         c::LabelJob {
             size,
             margin,
@@ -141,8 +152,8 @@ impl LabelJob {
             rounded: rounded.into(),
             align: align as u32,
             width,
-            box_width: 0,
-            box_height: 0,
+            box_width,
+            box_height,
         }
     }
 }
@@ -180,7 +191,7 @@ impl Picture {
 #[derive(Clone, Debug, PartialEq, Eq)]
 #[non_exhaustive]
 pub struct Label {
-    /// Its picture, with the base line of the first line.
+    /// Its picture, with the base line of the first row.
     pub picture: Picture,
     /// The size that was drawn, in pixels per em.
     pub size: u64,

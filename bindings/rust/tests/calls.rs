@@ -148,6 +148,48 @@ fn labels_have_a_width() {
     job.margin = 3;
     let refused = font.draw_label("W", &job).unwrap_err();
     assert_eq!((refused.status(), refused.number()), (2, 69));
+    job.width = 40;
+    let words = [
+        "label", "--size", "16", "--margin", "3", "--width", "40", "--align", "right",
+    ];
+    let path = font_path();
+    let words = [&words[..], &[path.as_str(), "one two-three"]].concat();
+    let picture = font.draw_label("one two-three", &job).unwrap().picture;
+    assert_eq!(picture.pbm(), printed(&words, ""));
+}
+
+#[test]
+fn labels_fill_a_box() {
+    let (path, bytes) = (font_path(), font_bytes());
+    let font = Font::new(&bytes).unwrap();
+    let mut job = LabelJob::of_size(300);
+    job.margin = 2;
+    job.align = Align::Centre;
+    job.box_size = Some((120, 45));
+    for text in ["Shelf 12", "quick-brown fox, Ǻjf", "a\nb", ""] {
+        let words = [
+            "label", "--margin", "2", "--align", "centre", "--box", "120x45", &path, text,
+        ];
+        let label = font.draw_label(text, &job).unwrap();
+        assert_eq!(label.picture.pbm(), printed(&words, ""));
+        assert_eq!((label.cut_left, label.cut_right), (0, 0));
+        job.size = label.size as u32;
+        assert_eq!(font.draw_label(text, &job).unwrap(), label);
+        job.size = 300;
+    }
+    for (sides, number) in [
+        ((0, 0), 70),
+        ((50, 0), 70),
+        ((16385, 50), 70),
+        ((50, 4), 70),
+        ((5, 5), 71),
+    ] {
+        job.box_size = Some(sides);
+        assert_eq!(font.draw_label("W", &job).unwrap_err().number(), number);
+    }
+    job.box_size = Some((50, 50));
+    job.width = 50;
+    assert_eq!(font.draw_label("W", &job).unwrap_err().number(), 70);
 }
 
 #[test]

@@ -1,5 +1,5 @@
 -- Which part of a request refuses its label, and what the label is.
-use Rattle.std.proofs.Common.{◌≡◌, ℕ, List, Ok, Err, inl, inr, refl}
+use Rattle.std.proofs.Common.{◌≡◌, ℕ, List, Option, Ok, Err, inl, inr, refl}
 use Rattle.std.specs.Prelude.{IfSome}
 use Rattle.tt_core.specs.declared.draw_fault.DrawFault.{DrawFault}
 use Rattle.tt_core.specs.Outcomes.{draw_font_fault}
@@ -8,12 +8,12 @@ use Rattle.tt_face.specs.Files.{IsFaceDefectBy}
 use Rattle.tt_strike.specs.Refusals.{refusal}
 use Rattle.tt_c_calls.specs.declared.fault.CallFault.{CallFault}
 use Rattle.tt_c_calls.specs.Fonts.{opened_wanted}
-use Rattle.tt_c_calls.specs.Refusals.{call_font_fault, call_of_draw, call_refusal}
-use Rattle.tt_c_calls.proofs.Answered.{draw_refused, draw_tells, drawn_too, first_stops}
+use Rattle.tt_c_calls.specs.Refusals.{as_call, call_font_fault, call_of_draw, call_refusal}
+use Rattle.tt_c_calls.proofs.Answered.{draw_refused, draw_tells, first_stops}
 use Rattle.tt_c_calls.proofs.StrikeLines.{if_some_more}
 use Rattle.tt_c_labels.specs.declared.asking.CLabelJob.{CLabelJob}
 use Rattle.tt_c_labels.specs.Asking.{LabelAsked, label_asked, label_opening}
-use Rattle.tt_c_labels.specs.Labels.{IsDrawnDefect, IsLabelDefect, LabelImage, composed_job, label_drawn, label_wanted}
+use Rattle.tt_c_labels.specs.Labels.{IsDrawnDefect, IsLabelDefect, LabelImage, composed_job, label_drawn, label_wanted, some_label}
 
 pub request_stops : (j : CLabelJob) (text file : List ℕ) (e : CallFault)
     → IfSome (call_refusal e) (λ why. label_asked j text ≡ Err why)
@@ -32,13 +32,15 @@ pub picture_stops : (j : CLabelJob) (text file : List ℕ) (a : LabelAsked) (fac
     → IfSome (refusal d) (λ why. label_drawn a.align a.space face (composed_job face.cmap a.job) ≡ Err why)
     → IfSome (call_refusal (call_of_draw d)) (λ why. label_wanted j text file ≡ Err why)
 unfolding label_wanted
-picture_stops j text file a face d is read stops = rw (is, read) (draw_refused _ d stops)
+picture_stops j text file a face d is read stops =
+    let drawn = label_drawn a.align a.space face (composed_job face.cmap a.job) in
+    rw (is, read) (first_stops (as_call drawn) some_label (call_of_draw d) (draw_refused drawn d stops))
 
-pub label_is : (j : CLabelJob) (text file : List ℕ) (a : LabelAsked) (face : Face) (i : LabelImage)
+pub label_is : (j : CLabelJob) (text file : List ℕ) (a : LabelAsked) (face : Face) (i : Option LabelImage)
     → label_asked j text ≡ Ok a → opened_wanted (label_opening j) file ≡ Ok face
-    → label_drawn a.align a.space face (composed_job face.cmap a.job) ≡ Ok i → label_wanted j text file ≡ Ok i
+    → label_drawn a.align a.space face (composed_job face.cmap a.job) ≡ Ok i → label_wanted j text file ≡ some_label i
 unfolding label_wanted
-label_is j text file a face i is read drawn = rw (is, read) (drawn_too _ i drawn)
+label_is j text file a face i is read drawn = rw (is, read, drawn) refl
 
 -- the defects
 

@@ -1,7 +1,7 @@
 -- No part of the standard: the request of a label by C, and its tests before the font is read (profile).
 use Rattle.std.specs.Prelude.{◌≡◌, refl, ℕ, ◌+◌, ◌-◌, ◌*◌, ◌≤◌, ◌==◌, nat_le, nat_lt, if◌then◌else◌, Bool, true, false, not, ◌&&◌, ◌||◌, List, [], ◌∷◌, map, Result, Ok, Err, ⊤}
 use Rattle.tt_core.specs.declared.collection.Reading.TheVariants as reading
-use Rattle.tt_core.specs.Limits.{width_limit}
+use Rattle.tt_core.specs.Limits.{height_limit, width_limit}
 use Rattle.tt_core.specs.Outcomes.{◌>>=◌}
 use Rattle.tt_face.specs.declared.rules.Opening.{Opening}
 use Rattle.tt_line.specs.declared.align.Align.{Align}
@@ -39,18 +39,28 @@ leaves_room limit margin n = nat_lt (2 * margin) n && nat_le n limit
 abbrev pub is_boxed : CLabelJob → Bool
 is_boxed j = not (j.box_width == 0) || not (j.box_height == 0)
 
--- the picture that a label is to have. No box is drawn yet
+-- the box that a label is to fill. No width stands beside a box
+unfoldable pub box_asked : CLabelJob → Result LabelSpace Refusal
+box_asked j =
+    if not (j.width == 0) then Err box_range
+    else if leaves_room width_limit j.margin j.box_width && leaves_room height_limit j.margin j.box_height
+        then Ok (space.Box j.box_width j.box_height)
+    else Err box_range
+
+-- the picture that a label is to have
 unfoldable pub space_asked : CLabelJob → Result LabelSpace Refusal
 space_asked j =
-    if is_boxed j then Err box_range
+    if is_boxed j then box_asked j
     else if j.width == 0 then Ok space.Lines
     else if leaves_room width_limit j.margin j.width then Ok (space.Width j.width)
     else Err width_range
 
--- a width has a column between two margins
+-- a width has a column between two margins, and a box also a row
 abbrev pub LeavesRoom : ℕ → LabelSpace → Type 0
 LeavesRoom margin space.Lines = ⊤
 LeavesRoom margin (space.Width n) = (2 * margin + 1 ≤ n) × (n ≤ width_limit)
+LeavesRoom margin (space.Box n m) =
+    (2 * margin + 1 ≤ n) × (n ≤ width_limit) × (2 * margin + 1 ≤ m) × (m ≤ height_limit)
 
 -- a requested label: the job of its text, where shorter lines stand, and its picture
 pub record LabelAsked : Type 0 where
@@ -102,9 +112,19 @@ widths : map (λ n. space_asked (record plain { width = n })) (4 ∷ 5 ∷ 16384
 unfolding space_asked plain
 widths = refl
 
-no_box_yet : space_asked (record plain { box_width = 9; box_height = 9 }) ≡ Err box_range
-unfolding space_asked plain
-no_box_yet = refl
+boxes : map (λ n. space_asked (record plain { box_width = n; box_height = 4096 })) (0 ∷ 4 ∷ 5 ∷ 16384 ∷ 16385 ∷ [])
+    ≡ Err box_range ∷ Err box_range ∷ Ok (space.Box 5 4096) ∷ Ok (space.Box 16384 4096) ∷ Err box_range ∷ []
+unfolding space_asked box_asked plain
+boxes = refl
+
+box_rows : map (λ n. space_asked (record plain { box_width = 9; box_height = n })) (0 ∷ 4 ∷ 5 ∷ 4097 ∷ [])
+    ≡ Err box_range ∷ Err box_range ∷ Ok (space.Box 9 5) ∷ Err box_range ∷ []
+unfolding space_asked box_asked plain
+box_rows = refl
+
+a_box_beside_a_width : space_asked (record plain { width = 9; box_width = 9; box_height = 9 }) ≡ Err box_range
+unfolding space_asked box_asked plain
+a_box_beside_a_width = refl
 
 faces : map (λ n. (label_opening (record plain { face = n })).reading) (0 ∷ 1 ∷ 2 ∷ [])
     ≡ reading.Wide 0 ∷ reading.Wide 0 ∷ reading.Wide 1 ∷ []

@@ -4,10 +4,10 @@ ghost use Rattle.std.specs.Prelude.{◌≡◌, IfOk};
 ghost use Rattle.tt_core.specs.Outcomes.{GivesUnless, IfTold};
 ghost use Rattle.tt_strike.specs.Job.{IsJob, job_view};
 ghost use Rattle.tt_c_calls.specs.Refusals.{call_font_fault, call_refusal};
-ghost use Rattle.tt_c_labels.specs.Asking.{LeavesRoom, align_asked, asked_view, is_boxed, label_asked, label_opening, leaves_room, space_asked};
+ghost use Rattle.tt_c_labels.specs.Asking.{LeavesRoom, align_asked, asked_view, box_asked, is_boxed, label_asked, label_opening, leaves_room, space_asked};
 
 use tt_c_calls::{CallFault, fit_of, heights_asked, text_of};
-use tt_core::{Reading, WIDTH_LIMIT};
+use tt_core::{HEIGHT_LIMIT, Reading, WIDTH_LIMIT};
 use tt_face::{LineRules, Opening};
 use tt_line::Align;
 use tt_render_settings::{Setting, test_setting};
@@ -33,7 +33,8 @@ pub struct CLabelJob {
     pub align: u32,
     /// Not 0 for a picture of that number of columns, whose lines are broken into rows.
     pub width: u32,
-    /// With `box_height` not 0 for a picture of this size. No such picture is drawn yet.
+    /// Not 0, with `box_height`, for a picture of so many columns and rows, which has the text at the greatest size of at
+    /// most `size` at which the text fits.
     pub box_width: u32,
     pub box_height: u32,
 }
@@ -53,6 +54,8 @@ pub enum LabelSpace {
     Lines,
     /// Of that number of columns.
     Width(u32),
+    /// Of that number of columns and of rows.
+    Box { width: u32, height: u32 },
 }
 
 /// The tested request of a label.
@@ -109,6 +112,25 @@ fn leaves_room(limit: u32, margin: u32, length: u32) -> bool
     2 * u64::from(margin) < u64::from(length) && length <= limit
 }
 
+/// The box that a label is to fill. Error: BoxRange.
+#[tactic(auto, unfolding(crate::specs::Asking::box_asked))]
+fn box_of(job: &CLabelJob) -> Result<LabelSpace, CallFault>
+    ensures exact { GivesUnless call_refusal (λ s. s) result (box_asked job.now) }
+    ensures room { IfOk result (LeavesRoom job.now.margin) }
+    ensures font { IfTold call_font_fault result (λ _. ⊥) }
+{
+    let (width, height) = (job.box_width, job.box_height);
+    if job.width != 0 {
+        return Err(CallFault::BoxRange);
+    }
+    if leaves_room(WIDTH_LIMIT, job.margin, width)
+        && leaves_room(HEIGHT_LIMIT, job.margin, height)
+    {
+        return Ok(LabelSpace::Box { width, height });
+    }
+    Err(CallFault::BoxRange)
+}
+
 /// The picture that a label is to have. Errors: BoxRange, WidthRange.
 #[tactic(auto, unfolding(crate::specs::Asking::space_asked))]
 fn space_of(job: &CLabelJob) -> Result<LabelSpace, CallFault>
@@ -117,7 +139,7 @@ fn space_of(job: &CLabelJob) -> Result<LabelSpace, CallFault>
     ensures font { IfTold call_font_fault result (λ _. ⊥) }
 {
     if job.is_boxed() {
-        return Err(CallFault::BoxRange);
+        return box_of(job);
     }
     if job.width == 0 {
         return Ok(LabelSpace::Lines);

@@ -3,7 +3,7 @@
 //!
 //! ```text
 //! asking.rt     the request of a label, tested
-//! drawing.rt    the label of a text, by a font at a size
+//! drawing.rt    the label of a text, by a font
 //! labelling.rt  the label in a caller's room
 //! ```
 #![tactic(auto)]

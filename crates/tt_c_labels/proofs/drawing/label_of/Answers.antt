@@ -1,3 +1,4 @@
+use Rattle.std.proofs.Common.{None, Some}
 use Rattle.std.proofs.lemmas.Result.{err_from_is_err_and}
 use Rattle.tt_c_labels.specs.Asking.{asked_view}
 use Rattle.tt_c_labels.specs.Labels.{drawn_view}
@@ -26,23 +27,30 @@ returns-in_err-drawn-clause-exact c =
     c.in_err-drawn.field-0.0 c.in_ok-asked.ensures.exact read
     (rw c.in_ok-strike.ensures.exact at c.in_err-drawn.ensures.exact))
 
+pub returns-in_default-clause-exact : goal.returns-in_default-clause-exact
+returns-in_default-clause-exact c =
+    let r = c.args.request.now in
+    let read = rw c.in_ok-asked.ensures.opening at c.in_ok-face.ensures.exact in
+    label_is r.job.now r.text.now r.font.now (asked_view c.in_ok-asked.asked) c.in_ok-face.face None c.in_ok-asked.ensures.exact
+    read (rw (c.in_ok-strike.ensures.exact, c.in_default.is) at c.in_ok-drawn.ensures.exact)
+
 pub returns-clause-exact : goal.returns-clause-exact
 returns-clause-exact c =
     let r = c.args.request.now in
     let read = rw c.in_ok-asked.ensures.opening at c.in_ok-face.ensures.exact in
     label_is r.job.now r.text.now r.font.now (asked_view c.in_ok-asked.asked) c.in_ok-face.face
-    (drawn_view c.in_ok-drawn.drawn) c.in_ok-asked.ensures.exact read
-    (rw c.in_ok-strike.ensures.exact at c.in_ok-drawn.ensures.exact)
+    (Some (drawn_view c.in-Some.drawn)) c.in_ok-asked.ensures.exact read
+    (rw (c.in_ok-strike.ensures.exact, c.in-Some.is) at c.in_ok-drawn.ensures.exact)
 
 pub returns-clause-label : goal.returns-clause-label
 returns-clause-label c =
     let r = c.args.request.now in
     let read = rw c.in_ok-asked.ensures.opening at c.in_ok-face.ensures.exact in
-    let made = rw c.in_ok-strike.ensures.exact at c.in_ok-drawn.ensures.made in
+    let made = rw (c.in_ok-strike.ensures.exact, c.in-Some.is) at c.in_ok-drawn.ensures.made in
     record {
       image = label_is r.job.now r.text.now r.font.now (asked_view c.in_ok-asked.asked) c.in_ok-face.face
-          (drawn_view c.in_ok-drawn.drawn) c.in_ok-asked.ensures.exact read
-          (rw c.in_ok-strike.ensures.exact at c.in_ok-drawn.ensures.exact);
-      ready = c.in_ok-drawn.ensures.ready;
+          (Some (drawn_view c.in-Some.drawn)) c.in_ok-asked.ensures.exact read
+          (rw (c.in_ok-strike.ensures.exact, c.in-Some.is) at c.in_ok-drawn.ensures.exact);
+      ready = rw c.in-Some.is at c.in_ok-drawn.ensures.ready;
       made = rw (c.in_ok-asked.ensures.exact, read) made;
     }
