@@ -11,8 +11,8 @@ use Rattle.tt_c_calls.specs.Fonts.{opened_wanted}
 use Rattle.tt_c_calls.specs.Refusals.{as_call, call_font_fault, call_of_draw, call_refusal}
 use Rattle.tt_c_calls.proofs.Answered.{draw_refused, draw_tells, first_stops}
 use Rattle.tt_c_calls.proofs.StrikeLines.{if_some_more}
-use Rattle.tt_c_labels.specs.declared.asking.CLabelJob.{CLabelJob}
-use Rattle.tt_c_labels.specs.Asking.{LabelAsked, label_asked, label_opening}
+use Rattle.tt_c_labels.specs.declared.request.CLabelJob.{CLabelJob}
+use Rattle.tt_c_labels.specs.Requests.{LabelAsked, label_asked, label_opening}
 use Rattle.tt_c_labels.specs.Labels.{IsDrawnDefect, IsLabelDefect, LabelImage, composed_job, label_drawn, label_wanted, some_label}
 
 pub request_stops : (j : CLabelJob) (text file : List ℕ) (e : CallFault)

@@ -24,12 +24,12 @@ use Rattle.tt_c_calls.specs.Answers.{DefectStands, TellsRefusal}
 use Rattle.tt_c_calls.specs.Fonts.{opened_wanted}
 use Rattle.tt_c_calls.specs.Pictures.{IsBandSmall, IsBandWritten, picture_told}
 use Rattle.tt_c_calls.specs.Refusals.{Refusal, as_call, box_small}
-use Rattle.tt_c_labels.specs.declared.asking.CLabelJob.{CLabelJob}
-use Rattle.tt_c_labels.specs.declared.asking.LabelSpace.{LabelSpace}
-use Rattle.tt_c_labels.specs.declared.asking.LabelSpace.TheVariants as space
+use Rattle.tt_c_labels.specs.declared.request.CLabelJob.{CLabelJob}
+use Rattle.tt_c_labels.specs.declared.request.LabelSpace.{LabelSpace}
+use Rattle.tt_c_labels.specs.declared.request.LabelSpace.TheVariants as space
 use Rattle.tt_c_labels.specs.declared.drawing.DrawnLabel.{DrawnLabel}
 use Rattle.tt_c_labels.specs.declared.labelling.CLabel.{CLabel}
-use Rattle.tt_c_labels.specs.Asking.{LabelAsked, label_asked, label_opening}
+use Rattle.tt_c_labels.specs.Requests.{LabelAsked, label_asked, label_opening}
 
 -- a label: its picture, its size in pixels per em, and the columns of ink that are cut at each side
 pub record LabelImage : Type 0 where

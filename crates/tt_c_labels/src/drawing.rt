@@ -9,11 +9,11 @@ ghost use Rattle.tt_strike.specs.Job.{IsJob, job_for, job_view};
 ghost use Rattle.tt_strike.specs.Refusals.{refusal};
 ghost use Rattle.tt_strike.specs.Strikes.{job_of};
 ghost use Rattle.tt_c_calls.specs.Refusals.{call_font_fault, call_refusal};
-ghost use Rattle.tt_c_labels.specs.Asking.{LeavesRoom, asked_view};
+ghost use Rattle.tt_c_labels.specs.Requests.{LeavesRoom, asked_view};
 ghost use Rattle.tt_c_labels.specs.Labels.{IsDrawnDefect, IsDrawnOf, IsLabelDefect, IsLabelMade, IsLabelOf, IsSpaceDefect, IsStrikeOf, composed_job, drawn_if, drawn_view, label_drawn, label_unfitted, label_wanted};
-ghost use Rattle.tt_c_labels.specs.declared.asking.LabelSpace.TheVariants as space;
+ghost use Rattle.tt_c_labels.specs.declared.request.LabelSpace.TheVariants as space;
 
-use crate::asking::{AskedLabel, LabelRequest, LabelSpace, asked_label};
+use crate::request::{AskedLabel, LabelRequest, LabelSpace, asked_label};
 use std::alloc::Global;
 use tt_box::{BoxLabel, LabelBox, label_in_box};
 use tt_c_calls::{CallFault, opened_face};

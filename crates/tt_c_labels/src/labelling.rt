@@ -5,8 +5,8 @@ ghost use Rattle.tt_picture.specs.Pictures.{IsReady};
 ghost use Rattle.tt_c_calls.specs.Pictures.{IsBandSmall};
 ghost use Rattle.tt_c_labels.specs.Labels.{DrawsLabel, IsLabelWritten};
 
-use crate::asking::LabelRequest;
 use crate::drawing::{DrawnLabel, label_of};
+use crate::request::LabelRequest;
 use std::alloc::Global;
 use tt_c_calls::{CAnswer, CPicture, answer_of, told_of, write_band};
 

@@ -2,15 +2,15 @@
 //! tt_c exports the call.
 //!
 //! ```text
-//! asking.rt     the request of a label, tested
+//! request.rt     the request of a label, tested
 //! drawing.rt    the label of a text, by a font
 //! labelling.rt  the label in a caller's room
 //! ```
 #![tactic(auto)]
 
-mod asking;
 mod drawing;
 mod labelling;
+mod request;
 
-pub use asking::{CLabelJob, LabelRequest};
 pub use labelling::{CLabel, label};
+pub use request::{CLabelJob, LabelRequest};

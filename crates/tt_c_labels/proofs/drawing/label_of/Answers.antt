@@ -1,6 +1,6 @@
 use Rattle.std.proofs.Common.{None, Some}
 use Rattle.std.proofs.lemmas.Result.{err_from_is_err_and}
-use Rattle.tt_c_labels.specs.Asking.{asked_view}
+use Rattle.tt_c_labels.specs.Requests.{asked_view}
 use Rattle.tt_c_labels.specs.Labels.{drawn_view}
 use Rattle.tt_c_labels.proofs.Wanted.{font_stops, label_is, picture_stops, request_stops}
 use Rattle.tt_c_labels.proofs.drawing.label_of.Goals as goal

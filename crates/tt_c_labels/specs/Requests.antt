@@ -11,10 +11,10 @@ use Rattle.tt_strike.specs.Job.{Job, job_for, job_view, tested}
 use Rattle.tt_strike.specs.Refusals.{as_job}
 use Rattle.tt_c_calls.specs.Asked.{fit_asked, heights_asked, text_asked}
 use Rattle.tt_c_calls.specs.Refusals.{Refusal, as_call, box_range, unknown_align, width_range}
-use Rattle.tt_c_labels.specs.declared.asking.AskedLabel.{AskedLabel}
-use Rattle.tt_c_labels.specs.declared.asking.CLabelJob.{CLabelJob}
-use Rattle.tt_c_labels.specs.declared.asking.LabelSpace.{LabelSpace}
-use Rattle.tt_c_labels.specs.declared.asking.LabelSpace.TheVariants as space
+use Rattle.tt_c_labels.specs.declared.request.AskedLabel.{AskedLabel}
+use Rattle.tt_c_labels.specs.declared.request.CLabelJob.{CLabelJob}
+use Rattle.tt_c_labels.specs.declared.request.LabelSpace.{LabelSpace}
+use Rattle.tt_c_labels.specs.declared.request.LabelSpace.TheVariants as space
 
 -- the alignment of a number
 unfoldable pub align_asked : ℕ → Result Align Refusal
@@ -44,7 +44,7 @@ unfoldable pub box_asked : CLabelJob → Result LabelSpace Refusal
 box_asked j =
     if not (j.width == 0) then Err box_range
     else if leaves_room width_limit j.margin j.box_width && leaves_room height_limit j.margin j.box_height
-        then Ok (space.Box j.box_width j.box_height)
+    then Ok (space.Box j.box_width j.box_height)
     else Err box_range
 
 -- the picture that a label is to have

@@ -4,7 +4,7 @@ ghost use Rattle.std.specs.Prelude.{◌≡◌, IfOk};
 ghost use Rattle.tt_core.specs.Outcomes.{GivesUnless, IfTold};
 ghost use Rattle.tt_strike.specs.Job.{IsJob, job_view};
 ghost use Rattle.tt_c_calls.specs.Refusals.{call_font_fault, call_refusal};
-ghost use Rattle.tt_c_labels.specs.Asking.{LeavesRoom, align_asked, asked_view, box_asked, is_boxed, label_asked, label_opening, leaves_room, space_asked};
+ghost use Rattle.tt_c_labels.specs.Requests.{LeavesRoom, align_asked, asked_view, box_asked, is_boxed, label_asked, label_opening, leaves_room, space_asked};
 
 use tt_c_calls::{CallFault, fit_of, heights_asked, text_of};
 use tt_core::{HEIGHT_LIMIT, Reading, WIDTH_LIMIT};
@@ -33,8 +33,8 @@ pub struct CLabelJob {
     pub align: u32,
     /// Not 0 for a picture of that number of columns, whose lines are broken into rows.
     pub width: u32,
-    /// Not 0, with `box_height`, for a picture of so many columns and rows, which has the text at the greatest size of at
-    /// most `size` at which the text fits.
+    /// Not 0, with `box_height`, for a picture of so many columns and rows, with the text at the greatest size that fits,
+    /// of at most `size`.
     pub box_width: u32,
     pub box_height: u32,
 }
@@ -92,7 +92,7 @@ impl CLabelJob {
 }
 
 /// The alignment of a number. Error: UnknownAlign.
-#[tactic(auto, unfolding(crate::specs::Asking::align_asked))]
+#[tactic(auto, unfolding(crate::specs::Requests::align_asked))]
 fn align_of(number: u32) -> Result<Align, CallFault>
     ensures exact { GivesUnless call_refusal (λ a. a) result (align_asked number) }
     ensures font { IfTold call_font_fault result (λ _. ⊥) }
@@ -113,7 +113,7 @@ fn leaves_room(limit: u32, margin: u32, length: u32) -> bool
 }
 
 /// The box that a label is to fill. Error: BoxRange.
-#[tactic(auto, unfolding(crate::specs::Asking::box_asked))]
+#[tactic(auto, unfolding(crate::specs::Requests::box_asked))]
 fn box_of(job: &CLabelJob) -> Result<LabelSpace, CallFault>
     ensures exact { GivesUnless call_refusal (λ s. s) result (box_asked job.now) }
     ensures room { IfOk result (LeavesRoom job.now.margin) }
@@ -132,7 +132,7 @@ fn box_of(job: &CLabelJob) -> Result<LabelSpace, CallFault>
 }
 
 /// The picture that a label is to have. Errors: BoxRange, WidthRange.
-#[tactic(auto, unfolding(crate::specs::Asking::space_asked))]
+#[tactic(auto, unfolding(crate::specs::Requests::space_asked))]
 fn space_of(job: &CLabelJob) -> Result<LabelSpace, CallFault>
     ensures exact { GivesUnless call_refusal (λ s. s) result (space_asked job.now) }
     ensures room { IfOk result (LeavesRoom job.now.margin) }
@@ -152,7 +152,7 @@ fn space_of(job: &CLabelJob) -> Result<LabelSpace, CallFault>
 
 /// The tested request of a label. Errors, the first of: UnknownFit, UnknownAlign, NotUtf8; SizeRange, MarginRange;
 /// BoxRange, WidthRange; TextLong.
-#[tactic(auto, unfolding(crate::specs::Asking::label_asked))]
+#[tactic(auto, unfolding(crate::specs::Requests::label_asked))]
 pub(crate) fn asked_label<'t>(job: &CLabelJob, text: &'t [u8]) -> Result<AskedLabel<'t>, CallFault>
     ensures exact { GivesUnless call_refusal asked_view result (label_asked job.now text.now) }
     ensures opening { IfOk result (λ a. a.job.opening ≡ label_opening job.now) }

@@ -1,6 +1,6 @@
 use Rattle.std.proofs.lemmas.Result.{err_from_is_err_and}
 use Rattle.tt_c_calls.proofs.LinesStopped.{fit_defect}
-use Rattle.tt_c_labels.proofs.asking.asked_label.Goals as goal
+use Rattle.tt_c_labels.proofs.request.asked_label.Goals as goal
 
 pub returns-in_err-fit-clause-font : goal.returns-in_err-fit-clause-font
 returns-in_err-fit-clause-font c =
