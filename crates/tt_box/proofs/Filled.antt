@@ -2,8 +2,7 @@
 use Rattle.std.proofs.Common.{◌≡◌, ℕ, ◌-◌, List, length, Vec, Global, Option, None, Some, Ok}
 use Rattle.std.specs.Prelude.{All, IfSome}
 use Rattle.tt_box.proofs.RowsFit.{fits_as, room_of}
-use Rattle.tt_box.specs.Boxes.{laid_if_fits}
-use Rattle.tt_box.specs.declared.place.LabelBox.{LabelBox}
+use Rattle.tt_box.specs.Boxes.{BoxPlace, laid_if_fits}
 use Rattle.tt_box.specs.Views.{FillsBox}
 use Rattle.tt_face.specs.Faces.{Face}
 use Rattle.tt_label.specs.Gathered.{gathered, units_glyphs}
@@ -25,7 +24,7 @@ use Rattle.tt_strike.specs.Job.{Job}
 use Rattle.tt_strike.specs.Made.{AreMade}
 use Rattle.tt_strike.proofs.Made.{reported_as_made}
 
-pub filled : (face : Face) (a : Job) (b : LabelBox) (o : Option Picture) (made : List Glyph) (n : ℕ) → IfSome o IsReady
+pub filled : (face : Face) (a : Job) (b : BoxPlace) (o : Option Picture) (made : List Glyph) (n : ℕ) → IfSome o IsReady
     → IfSome o (λ (p : Picture). (p.frame.width ≡ b.width) × (p.frame.height ≡ b.height))
     → IfSome o (λ (p : Picture). p.unfitted ≡ unfitted_standing made) → IfSome o (λ (p : Picture). p.cost ≡ n)
     → AreMade face a (gathered (units_glyphs face a)) made → line_cost face a (gathered (units_glyphs face a)) ≡ Ok n
@@ -42,7 +41,7 @@ filled face a b (Some p) made n ready sides unfitted cost are is =
     }
 
 -- facts of the glyphs of the text hold for the rows in the box
-pub boxed_have : (P : ℕ → Type 0) (h : RowHeights) (b : LabelBox) (us : List (Vec RowUnit Global)) (ls : List Laid)
+pub boxed_have : (P : ℕ → Type 0) (h : RowHeights) (b : BoxPlace) (us : List (Vec RowUnit Global)) (ls : List Laid)
     → laid_if_fits h b (its_units us) ≡ Some (placements_of ls) → All P (all_glyphs (its_units us))
     → All (λ (l : Laid). All (λ (g : ℕ × ℕ). P g.0) l.line.glyphs.items) ls
 boxed_have P h b us ls is all =

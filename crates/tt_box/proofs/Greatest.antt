@@ -3,8 +3,7 @@ use Rattle.std.proofs.Common.{◌≡◌, refl, ℕ, suc, zero, ◌+◌, Option, 
 use Rattle.std.proofs.lemmas.Bool.{cases_Bool, cases_eq}
 use Rattle.std.specs.Prelude.{◌⊎◌}
 use Rattle.tt_box.specs.BoxLaws.{DoesNotFit, NoSizeIsLeft, SizesAreGreatest}
-use Rattle.tt_box.specs.Boxes.{Boxed, Stepped, boxed_from, boxed_or, is_too_high, left_after, size_tried, some_left, step_at}
-use Rattle.tt_box.specs.declared.place.LabelBox.{LabelBox}
+use Rattle.tt_box.specs.Boxes.{BoxPlace, Boxed, Stepped, boxed_from, boxed_or, is_too_high, left_after, size_tried, some_left, step_at}
 use Rattle.tt_core.specs.Chains.{came-through}
 use Rattle.tt_core.specs.Outcomes.{◌>>=◌}
 use Rattle.tt_face.specs.Faces.{Face}
@@ -13,7 +12,7 @@ use Rattle.tt_strike.specs.Job.{Job}
 use Rattle.tt_strike.specs.Refusals.{Refused}
 
 -- a size without a picture does not fit
-not_fitted : (face : Face) (a : Job) (b : LabelBox) (left : Option ℕ) (t : Stepped) → step_at face a b left ≡ Ok t → t.shown ≡ None → DoesNotFit face a b
+not_fitted : (face : Face) (a : Job) (b : BoxPlace) (left : Option ℕ) (t : Stepped) → step_at face a b left ≡ Ok t → t.shown ≡ None → DoesNotFit face a b
 unfolding step_at
 not_fitted face a b left t is none = elim (cases_Bool (is_too_high face b a.ppem)) [
   | inl high ↦ inl high
@@ -27,7 +26,7 @@ not_fitted face a b left t is none = elim (cases_Bool (is_too_high face b a.ppem
       )
 ]
 
-greatest_found : (face : Face) (a : ℕ → Job) (b : LabelBox) (least p : ℕ) (shown : Option Image) (others : Result (Option Boxed) Refused) (d : Boxed)
+greatest_found : (face : Face) (a : ℕ → Job) (b : BoxPlace) (least p : ℕ) (shown : Option Image) (others : Result (Option Boxed) Refused) (d : Boxed)
     → boxed_or p shown others ≡ Ok (Some d) → (d.ppem ≡ p) ⊎ ((shown ≡ None) × (others ≡ Ok (Some d)))
 greatest_found face a b least p (Some i) others d is =
     let same : record { ppem = p; shown = i } ≡ d = cc in inl (rw (← same) refl)

@@ -3,8 +3,7 @@ use Rattle.std.proofs.Common.{◌≡◌, refl, ℕ, suc, zero, ◌+◌, true, Li
 use Rattle.std.proofs.lemmas.Bool.{cases_Bool}
 use Rattle.std.specs.Prelude.{◌⊎◌}
 use Rattle.tt_box.specs.BoxLaws.{BoxesCutNone, ShowsRows}
-use Rattle.tt_box.specs.Boxes.{Boxed, Stepped, Tried, begun_cost, boxed_from, boxed_or, is_inside, is_too_high, laid_if_fits, left_after, shown_in_box, size_tried, some_left, step_at, tried_rows}
-use Rattle.tt_box.specs.declared.place.LabelBox.{LabelBox}
+use Rattle.tt_box.specs.Boxes.{BoxPlace, Boxed, Stepped, Tried, begun_cost, boxed_from, boxed_or, is_inside, is_too_high, laid_if_fits, left_after, shown_in_box, size_tried, some_left, step_at, tried_rows}
 use Rattle.tt_core.specs.Chains.{came-through}
 use Rattle.tt_core.specs.Outcomes.{◌>>=◌}
 use Rattle.tt_face.specs.Faces.{Face}
@@ -25,7 +24,7 @@ use Rattle.tt_strike.specs.Refusals.{Refused}
 use Rattle.tt_strike.specs.Work.{line_fitter, work_left}
 
 -- rows are shown where their ink lies in the box
-shown_inside : (b : LabelBox) (margin : ℕ) (maker : ℕ → Fitter) (ink : Option InkBox) (lines : List Placement) (i : Image)
+shown_inside : (b : BoxPlace) (margin : ℕ) (maker : ℕ → Fitter) (ink : Option InkBox) (lines : List Placement) (i : Image)
     → shown_in_box b margin maker ink lines ≡ Some i
     → (is_inside b.width b.height ink ≡ true) × (i ≡ image (frame_of (joint lines) margin) (some_line_shows maker margin lines))
 shown_inside b margin maker ink lines i is = elim (cases_Bool (is_inside b.width b.height ink)) [
@@ -33,7 +32,7 @@ shown_inside b margin maker ink lines i is = elim (cases_Bool (is_inside b.width
   | inr outside ↦ (let there = rw outside at is in absurd cc)
 ]
 
-rows_shown : (face : Face) (a : Job) (b : LabelBox) (s : Fitter) (laid : Option (List Placement)) (t : Tried) (i : Image)
+rows_shown : (face : Face) (a : Job) (b : BoxPlace) (s : Fitter) (laid : Option (List Placement)) (t : Tried) (i : Image)
     → begun_outcome face a ≡ Ok s → laid_if_fits (row_heights face.metrics a.ppem) b (units_in face a s) ≡ laid
     → tried_rows face a b s laid ≡ Ok t → t.shown ≡ Some i → (lines : List Placement) × ShowsRows face a b i s lines
 rows_shown face a b s None t i begun fits is shown =
@@ -50,7 +49,7 @@ rows_shown face a b s (Some lines) t i begun fits is shown =
     let both = shown_inside b a.margin (line_fitter s gs) ink lines i there in
     (lines, record { begun = begun; fits = fits; inside = both.0; shown = both.1 })
 
-size_shown : (face : Face) (a : Job) (b : LabelBox) (t : Tried) (i : Image) → size_tried face a b ≡ Ok t → t.shown ≡ Some i
+size_shown : (face : Face) (a : Job) (b : BoxPlace) (t : Tried) (i : Image) → size_tried face a b ≡ Ok t → t.shown ≡ Some i
     → (s : Fitter) × ((lines : List Placement) × ShowsRows face a b i s lines)
 unfolding size_tried
 size_shown face a b t i is shown =
@@ -59,7 +58,7 @@ size_shown face a b t i is shown =
       rows_shown face a b through.value (laid_if_fits (row_heights face.metrics a.ppem) b (units_in face a through.value)) t i through.first refl through.rest shown,
     )
 
-step_shown : (face : Face) (a : Job) (b : LabelBox) (left : Option ℕ) (t : Stepped) (i : Image) → step_at face a b left ≡ Ok t → t.shown ≡ Some i
+step_shown : (face : Face) (a : Job) (b : BoxPlace) (left : Option ℕ) (t : Stepped) (i : Image) → step_at face a b left ≡ Ok t → t.shown ≡ Some i
     → (s : Fitter) × ((lines : List Placement) × ShowsRows face a b i s lines)
 unfolding step_at
 step_shown face a b left t i is shown = elim (cases_Bool (is_too_high face b a.ppem)) [

@@ -2,8 +2,7 @@
 use Rattle.std.proofs.Common.{◌≡◌, refl, ap, ℕ, ◌-◌, ◌*◌, ◌<◌, ◌≤◌, Bool, true, false, nat_lt, if◌then◌else◌, List, length, Option, None, Some, arith}
 use Rattle.std.proofs.lemmas.Bool.{le-ltb, lt-ltb}
 use Rattle.std.specs.Prelude.{All}
-use Rattle.tt_box.specs.Boxes.{laid_if_fits, laid_in_box}
-use Rattle.tt_box.specs.declared.place.LabelBox.{LabelBox}
+use Rattle.tt_box.specs.Boxes.{BoxPlace, laid_if_fits, laid_in_box}
 use Rattle.tt_label.proofs.RowsPlaced.{HasSize, rows_counted, rows_sized, some_rows}
 use Rattle.tt_label_rows.specs.declared.heights.RowHeights.{RowHeights}
 use Rattle.tt_label_rows.specs.Pictures.{box_picture, first_rise, is_low}
@@ -12,22 +11,22 @@ use Rattle.tt_line.specs.Labels.{widest}
 use Rattle.tt_line.specs.Layout.{Placement}
 use Rattle.tt_rows.specs.declared.unit.RowUnit.{RowUnit}
 
-abbrev pub room_of : LabelBox → ℕ
+abbrev pub room_of : BoxPlace → ℕ
 room_of b = b.width - 2 * b.margin
 
-pub broken_not : (h : RowHeights) (b : LabelBox) (lines : List (List RowUnit)) → breaks_word (room_of b) lines ≡ true → laid_if_fits h b lines ≡ None
+pub broken_not : (h : RowHeights) (b : BoxPlace) (lines : List (List RowUnit)) → breaks_word (room_of b) lines ≡ true → laid_if_fits h b lines ≡ None
 broken_not h b lines broken = rw broken refl
 
-pub wide_not : (h : RowHeights) (b : LabelBox) (lines : List (List RowUnit)) → breaks_word (room_of b) lines ≡ false
+pub wide_not : (h : RowHeights) (b : BoxPlace) (lines : List (List RowUnit)) → breaks_word (room_of b) lines ≡ false
     → room_of b < widest (text_rows (room_of b) lines) → laid_if_fits h b lines ≡ None
 wide_not h b lines whole wide = rw (whole, lt-ltb (room_of b) (widest (text_rows (room_of b) lines)) wide) refl
 
-pub high_not : (h : RowHeights) (b : LabelBox) (lines : List (List RowUnit)) → breaks_word (room_of b) lines ≡ false
+pub high_not : (h : RowHeights) (b : BoxPlace) (lines : List (List RowUnit)) → breaks_word (room_of b) lines ≡ false
     → widest (text_rows (room_of b) lines) ≤ room_of b → is_low h (length (text_rows (room_of b) lines) - 1) b.height b.margin ≡ false
     → laid_if_fits h b lines ≡ None
 high_not h b lines whole narrow high = rw (whole, le-ltb (room_of b) (widest (text_rows (room_of b) lines)) narrow, high) refl
 
-pub low_fits : (h : RowHeights) (b : LabelBox) (lines : List (List RowUnit)) → breaks_word (room_of b) lines ≡ false
+pub low_fits : (h : RowHeights) (b : BoxPlace) (lines : List (List RowUnit)) → breaks_word (room_of b) lines ≡ false
     → widest (text_rows (room_of b) lines) ≤ room_of b → is_low h (length (text_rows (room_of b) lines) - 1) b.height b.margin ≡ true
     → laid_if_fits h b lines ≡ Some (laid_in_box h b (text_rows (room_of b) lines))
 low_fits h b lines whole narrow low = rw (whole, le-ltb (room_of b) (widest (text_rows (room_of b) lines)) narrow, low) refl
@@ -39,13 +38,13 @@ some_of false true z v w is = absurd cc
 some_of false false true v w is = cc
 some_of false false false v w is = absurd cc
 
-pub fits_as : (h : RowHeights) (b : LabelBox) (lines : List (List RowUnit)) (ls : List Placement) → laid_if_fits h b lines ≡ Some ls
+pub fits_as : (h : RowHeights) (b : BoxPlace) (lines : List (List RowUnit)) (ls : List Placement) → laid_if_fits h b lines ≡ Some ls
     → ls ≡ laid_in_box h b (text_rows (room_of b) lines)
 fits_as h b lines ls is =
     some_of (breaks_word (room_of b) lines) (nat_lt (room_of b) (widest (text_rows (room_of b) lines)))
     (is_low h (length (text_rows (room_of b) lines) - 1) b.height b.margin) (laid_in_box h b (text_rows (room_of b) lines)) ls is
 
-pub some_fit : (h : RowHeights) (b : LabelBox) (lines : List (List RowUnit)) (ls : List Placement) → 1 ≤ length lines → laid_if_fits h b lines ≡ Some ls
+pub some_fit : (h : RowHeights) (b : BoxPlace) (lines : List (List RowUnit)) (ls : List Placement) → 1 ≤ length lines → laid_if_fits h b lines ≡ Some ls
     → 1 ≤ length ls
 some_fit h b lines ls some is =
     let rs = text_rows (room_of b) lines in
@@ -54,7 +53,7 @@ some_fit h b lines ls some is =
     let count = ap length (fits_as h b lines ls is) in
     omega (arith, many, rows, count)
 
-pub all_sized : (h : RowHeights) (b : LabelBox) (lines : List (List RowUnit)) (ls : List Placement) → laid_if_fits h b lines ≡ Some ls
+pub all_sized : (h : RowHeights) (b : BoxPlace) (lines : List (List RowUnit)) (ls : List Placement) → laid_if_fits h b lines ≡ Some ls
     → All (HasSize b.width b.height) ls
 all_sized h b lines ls is =
     let rs = text_rows (room_of b) lines in

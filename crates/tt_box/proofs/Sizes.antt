@@ -2,8 +2,7 @@
 use Rattle.std.proofs.Common.{◌≡◌, ◌∙◌, refl, sym, subst, ℕ, suc, ◌+◌, ◌-◌, ◌*◌, ◌^◌, ◌<◌, ◌≤◌, true, false, List, Option, None, Some, Ok, Err, inl, inr, arith}
 use Rattle.std.proofs.lemmas.Bool.{cases_lt, le-ltb, lt-ltb}
 use Rattle.std.specs.Prelude.{IfSome}
-use Rattle.tt_box.specs.Boxes.{Stepped, Tried, box_outcome, boxed_from, is_too_high, least_size, left_after, size_tried, step_at}
-use Rattle.tt_box.specs.declared.place.LabelBox.{LabelBox}
+use Rattle.tt_box.specs.Boxes.{BoxPlace, Stepped, Tried, box_outcome, boxed_from, is_too_high, least_size, left_after, size_tried, step_at}
 use Rattle.tt_core.specs.declared.draw_fault.DrawFault.{DrawFault}
 use Rattle.tt_core.specs.declared.fault.JobFault.{JobFault}
 use Rattle.tt_core.specs.declared.fault.JobFault.TheVariants as fault
@@ -15,57 +14,57 @@ use Rattle.tt_strike.specs.Refusals.{Refused, job, refusal}
 use Rattle.tt_strike.proofs.Stopped.{stops}
 
 -- one size
-pub step_high : (face : Face) (a : Job) (b : LabelBox) (left : Option ℕ) → is_too_high face b a.ppem ≡ true
+pub step_high : (face : Face) (a : Job) (b : BoxPlace) (left : Option ℕ) → is_too_high face b a.ppem ≡ true
     → step_at face a b left ≡ Ok (record { shown = None; left = left })
 unfolding step_at
 step_high face a b left high = rw high refl
 
-pub step_large : (face : Face) (a : Job) (b : LabelBox) → is_too_high face b a.ppem ≡ false → step_at face a b None ≡ Err (job fault.WorkLarge)
+pub step_large : (face : Face) (a : Job) (b : BoxPlace) → is_too_high face b a.ppem ≡ false → step_at face a b None ≡ Err (job fault.WorkLarge)
 unfolding step_at
 step_large face a b low = rw low refl
 
-pub step_stops : (face : Face) (a : Job) (b : LabelBox) (work : ℕ) (e : DrawFault) → is_too_high face b a.ppem ≡ false
+pub step_stops : (face : Face) (a : Job) (b : BoxPlace) (work : ℕ) (e : DrawFault) → is_too_high face b a.ppem ≡ false
     → IfSome (refusal e) (λ r. size_tried face a b ≡ Err r) → IfSome (refusal e) (λ r. step_at face a b (Some work) ≡ Err r)
 unfolding step_at
 step_stops face a b work e low = stops e (size_tried face a b) (step_at face a b (Some work)) (λ r fails. rw (low, fails) refl)
 
-pub step_tried : (face : Face) (a : Job) (b : LabelBox) (work : ℕ) (t : Tried) → is_too_high face b a.ppem ≡ false → size_tried face a b ≡ Ok t
+pub step_tried : (face : Face) (a : Job) (b : BoxPlace) (work : ℕ) (t : Tried) → is_too_high face b a.ppem ≡ false → size_tried face a b ≡ Ok t
     → step_at face a b (Some work) ≡ Ok (record { shown = t.shown; left = left_after work t.cost })
 unfolding step_at
 step_tried face a b work t low tried = rw (low, tried) refl
 
 -- the sizes from the next on
-pub next_found : (face : Face) (a : ℕ → Job) (b : LabelBox) (least n m p : ℕ) (left : Option ℕ) (t : Stepped) (i : Image) → n ≡ suc m → p ≡ least + m
+pub next_found : (face : Face) (a : ℕ → Job) (b : BoxPlace) (least n m p : ℕ) (left : Option ℕ) (t : Stepped) (i : Image) → n ≡ suc m → p ≡ least + m
     → step_at face (a p) b left ≡ Ok t → t.shown ≡ Some i → boxed_from face a b least n left ≡ Ok (Some (record { ppem = p; shown = i }))
 next_found face a b least n m p left t i next at is some =
     let here = rw at at is in rw (next, here, some, at) refl
 
-pub next_left : (face : Face) (a : ℕ → Job) (b : LabelBox) (least n m p : ℕ) (left : Option ℕ) (t : Stepped) → n ≡ suc m → p ≡ least + m
+pub next_left : (face : Face) (a : ℕ → Job) (b : BoxPlace) (least n m p : ℕ) (left : Option ℕ) (t : Stepped) → n ≡ suc m → p ≡ least + m
     → step_at face (a p) b left ≡ Ok t → t.shown ≡ None → boxed_from face a b least n left ≡ boxed_from face a b least m t.left
 next_left face a b least n m p left t next at is none =
     let here = rw at at is in rw (next, here, none) refl
 
-pub next_stops : (face : Face) (a : ℕ → Job) (b : LabelBox) (least n m p : ℕ) (left : Option ℕ) (r : Refused) → n ≡ suc m → p ≡ least + m
+pub next_stops : (face : Face) (a : ℕ → Job) (b : BoxPlace) (least n m p : ℕ) (left : Option ℕ) (r : Refused) → n ≡ suc m → p ≡ least + m
     → step_at face (a p) b left ≡ Err r → boxed_from face a b least n left ≡ Err r
 next_stops face a b least n m p left r next at is =
     let here = rw at at is in rw (next, here) refl
 
 -- no size is left
-pub none_left : (face : Face) (a : ℕ → Job) (b : LabelBox) (least n : ℕ) (left : Option ℕ) → n ≡ 0 → boxed_from face a b least n left ≡ Ok None
+pub none_left : (face : Face) (a : ℕ → Job) (b : BoxPlace) (least n : ℕ) (left : Option ℕ) → n ≡ 0 → boxed_from face a b least n left ≡ Ok None
 none_left face a b least n left none = rw none refl
 
 -- a text and a margin that are tested
-pub box_margin : (face : Face) (how : Fit) (greatest : ℕ) (text : List ℕ) (b : LabelBox) (j : JobFault) → margin_tested b.margin ≡ Err j
+pub box_margin : (face : Face) (how : Fit) (greatest : ℕ) (text : List ℕ) (b : BoxPlace) (j : JobFault) → margin_tested b.margin ≡ Err j
     → box_outcome face how greatest text b ≡ Err (job j)
 unfolding box_outcome
 box_margin face how greatest text b j fails = rw fails refl
 
-pub box_text : (face : Face) (how : Fit) (greatest : ℕ) (text : List ℕ) (b : LabelBox) (j : JobFault) → margin_tested b.margin ≡ Ok tt
+pub box_text : (face : Face) (how : Fit) (greatest : ℕ) (text : List ℕ) (b : BoxPlace) (j : JobFault) → margin_tested b.margin ≡ Ok tt
     → text_tested text ≡ Err j → box_outcome face how greatest text b ≡ Err (job j)
 unfolding box_outcome
 box_text face how greatest text b j near fails = rw (near, fails) refl
 
-box_tested : (face : Face) (how : Fit) (greatest : ℕ) (text : List ℕ) (b : LabelBox) → margin_tested b.margin ≡ Ok tt → text_tested text ≡ Ok tt
+box_tested : (face : Face) (how : Fit) (greatest : ℕ) (text : List ℕ) (b : BoxPlace) → margin_tested b.margin ≡ Ok tt → text_tested text ≡ Ok tt
     → box_outcome face how greatest text b
     ≡ boxed_from face (λ ppem. job_for ppem how text b.margin) b (least_size greatest) (suc (greatest - least_size greatest)) (Some 10000000)
 unfolding box_outcome
@@ -78,13 +77,13 @@ least_is_low greatest = elim (cases_lt greatest 5) [
 ]
 
 -- sizes that are left, from a size on down, with the work that is left
-pub record AreOn (face : Face) (a : ℕ → Job) (b : LabelBox) (least greatest ppem : ℕ) (left : Option ℕ) : Type 0 where
+pub record AreOn (face : Face) (a : ℕ → Job) (b : BoxPlace) (least greatest ppem : ℕ) (left : Option ℕ) : Type 0 where
   pub same : boxed_from face a b least (ppem - least) left ≡ boxed_from face a b least (suc (greatest - least)) (Some 10000000)
   pub low : least ≤ ppem
   pub high : ppem ≤ greatest + 1
   pub work : IfSome left (λ n. n + 4000000 * ppem ≤ 2 ^ 40)
 
-pub first_on : (face : Face) (a : ℕ → Job) (b : LabelBox) (least greatest : ℕ) → least ≤ greatest → greatest ≤ 300
+pub first_on : (face : Face) (a : ℕ → Job) (b : BoxPlace) (least greatest : ℕ) → least ≤ greatest → greatest ≤ 300
     → AreOn face a b least greatest (greatest + 1) (Some 10000000)
 first_on face a b least greatest low high =
     let all : (greatest + 1) - least ≡ suc (greatest - least) = omega (arith, low) in
@@ -111,7 +110,7 @@ pub work_after : (ppem next : ℕ) (left : Option ℕ) → next + 1 ≡ ppem →
 work_after ppem next left one few =
     weaker_some (λ n. n ≤ (2 ^ 40 - 4000000 * ppem) + 4000000) (λ n. n + 4000000 * next ≤ 2 ^ 40) left (λ n below. omega (arith, below, one, few))
 
-pub next_on : (face : Face) (a : ℕ → Job) (b : LabelBox) (least greatest ppem : ℕ) (left : Option ℕ) (t : Stepped) → greatest ≤ 300
+pub next_on : (face : Face) (a : ℕ → Job) (b : BoxPlace) (least greatest ppem : ℕ) (left : Option ℕ) (t : Stepped) → greatest ≤ 300
     → AreOn face a b least greatest ppem left → least < ppem → step_at face (a (ppem - 1)) b left ≡ Ok t → t.shown ≡ None
     → ((most : ℕ) → IfSome left (λ n. n ≤ most) → IfSome t.left (λ n. n ≤ most + 4000000))
     → AreOn face a b least greatest (ppem - 1) t.left
@@ -129,7 +128,7 @@ next_on face a b least greatest ppem left t few are above is none bound =
     }
 
 -- the answer for the box is that of the sizes that are left
-box_on : (face : Face) (how : Fit) (greatest : ℕ) (text : List ℕ) (b : LabelBox) (least ppem : ℕ) (left : Option ℕ) → margin_tested b.margin ≡ Ok tt
+box_on : (face : Face) (how : Fit) (greatest : ℕ) (text : List ℕ) (b : BoxPlace) (least ppem : ℕ) (left : Option ℕ) → margin_tested b.margin ≡ Ok tt
     → text_tested text ≡ Ok tt → least ≡ least_size greatest → AreOn face (λ n. job_for n how text b.margin) b least greatest ppem left
     → box_outcome face how greatest text b ≡ boxed_from face (λ n. job_for n how text b.margin) b least (ppem - least) left
 box_on face how greatest text b least ppem left near short is are =
@@ -137,7 +136,7 @@ box_on face how greatest text b least ppem left near short is are =
     ≡ boxed_from face (λ n. job_for n how text b.margin) b l (suc (greatest - l)) (Some 10000000) in
     subst P (sym is) (box_tested face how greatest text b near short) ∙ sym are.same
 
-pub box_stops : (face : Face) (how : Fit) (greatest : ℕ) (text : List ℕ) (b : LabelBox) (least ppem : ℕ) (left : Option ℕ) (e : DrawFault) → margin_tested b.margin ≡ Ok tt
+pub box_stops : (face : Face) (how : Fit) (greatest : ℕ) (text : List ℕ) (b : BoxPlace) (least ppem : ℕ) (left : Option ℕ) (e : DrawFault) → margin_tested b.margin ≡ Ok tt
     → text_tested text ≡ Ok tt → least ≡ least_size greatest → AreOn face (λ n. job_for n how text b.margin) b least greatest ppem left → least < ppem
     → IfSome (refusal e) (λ r. step_at face (job_for (ppem - 1) how text b.margin) b left ≡ Err r)
     → IfSome (refusal e) (λ r. box_outcome face how greatest text b ≡ Err r)
@@ -149,7 +148,7 @@ box_stops face how greatest text b least ppem left e near short is are above =
     box_on face how greatest text b least ppem left near short is are
     ∙ next_stops face (λ n. job_for n how text b.margin) b least (ppem - least) (next - least) next left r more at fails)
 
-pub box_found : (face : Face) (how : Fit) (greatest : ℕ) (text : List ℕ) (b : LabelBox) (least ppem : ℕ) (left : Option ℕ) (t : Stepped) (i : Image)
+pub box_found : (face : Face) (how : Fit) (greatest : ℕ) (text : List ℕ) (b : BoxPlace) (least ppem : ℕ) (left : Option ℕ) (t : Stepped) (i : Image)
     → margin_tested b.margin ≡ Ok tt → text_tested text ≡ Ok tt → least ≡ least_size greatest
     → AreOn face (λ n. job_for n how text b.margin) b least greatest ppem left → least < ppem
     → step_at face (job_for (ppem - 1) how text b.margin) b left ≡ Ok t → t.shown ≡ Some i
@@ -161,7 +160,7 @@ box_found face how greatest text b least ppem left t i near short is are above t
     box_on face how greatest text b least ppem left near short is are
     ∙ next_found face (λ n. job_for n how text b.margin) b least (ppem - least) (next - least) next left t i more at tried shown
 
-pub box_empty : (face : Face) (how : Fit) (greatest : ℕ) (text : List ℕ) (b : LabelBox) (least ppem : ℕ) (left : Option ℕ) → margin_tested b.margin ≡ Ok tt
+pub box_empty : (face : Face) (how : Fit) (greatest : ℕ) (text : List ℕ) (b : BoxPlace) (least ppem : ℕ) (left : Option ℕ) → margin_tested b.margin ≡ Ok tt
     → text_tested text ≡ Ok tt → least ≡ least_size greatest → AreOn face (λ n. job_for n how text b.margin) b least greatest ppem left → ppem ≤ least
     → box_outcome face how greatest text b ≡ Ok None
 box_empty face how greatest text b least ppem left near short is are over =

@@ -2,8 +2,7 @@
 use Rattle.std.proofs.Common.{◌≡◌, ◌∙◌, refl, sym, ℕ, ◌≤◌, true, false, List, [], ◌∷◌, length, Option, None, Some, Result, Ok, Err, arith}
 use Rattle.std.proofs.lemmas.List.Elements.{All-head}
 use Rattle.std.specs.Prelude.{All, IfSome}
-use Rattle.tt_box.specs.Boxes.{begun_cost, is_inside, laid_if_fits, shown_in_box, size_tried}
-use Rattle.tt_box.specs.declared.place.LabelBox.{LabelBox}
+use Rattle.tt_box.specs.Boxes.{BoxPlace, begun_cost, is_inside, laid_if_fits, shown_in_box, size_tried}
 use Rattle.tt_box.specs.Views.{AreBoxed}
 use Rattle.tt_core.specs.declared.draw_fault.DrawFault.{DrawFault}
 use Rattle.tt_core.specs.declared.fault.JobFault.{JobFault}
@@ -45,12 +44,12 @@ pub made_cost : (face : Face) (a : Job) (s : Fitter) → is_bounded a.fit ≡ fa
 made_cost face a s unbounded = rw unbounded refl
 
 -- ink that lies in the box, and ink that does not
-pub inside_shown : (b : LabelBox) (margin : ℕ) (maker : ℕ → Fitter) (ink other : Option InkBox) (lines : List Placement) → ink ≡ other
+pub inside_shown : (b : BoxPlace) (margin : ℕ) (maker : ℕ → Fitter) (ink other : Option InkBox) (lines : List Placement) → ink ≡ other
     → is_inside b.width b.height ink ≡ true
     → shown_in_box b margin maker other lines ≡ Some (image (frame_of (joint lines) margin) (some_line_shows maker margin lines))
 inside_shown b margin maker ink other lines same inside = let there = rw same at inside in rw there refl
 
-pub outside_not : (b : LabelBox) (margin : ℕ) (maker : ℕ → Fitter) (ink other : Option InkBox) (lines : List Placement) → ink ≡ other
+pub outside_not : (b : BoxPlace) (margin : ℕ) (maker : ℕ → Fitter) (ink other : Option InkBox) (lines : List Placement) → ink ≡ other
     → is_inside b.width b.height ink ≡ false → shown_in_box b margin maker other lines ≡ None
 outside_not b margin maker ink other lines same outside = let there = rw same at outside in rw there refl
 
@@ -60,20 +59,20 @@ joint_sized w h [] some all = absurd (omega (arith, some))
 joint_sized w h (l ∷ ls) some all = All-head (HasSize w h) l ls all
 
 -- the lines of a box are alike
-pub alike_boxed : (b : LabelBox) (lines : List Laid) → AreBoxed b lines → AreAlike (placements_of lines)
+pub alike_boxed : (b : BoxPlace) (lines : List Laid) → AreBoxed b lines → AreAlike (placements_of lines)
 alike_boxed b lines are = of_one_size b.width b.height (placements_of lines) are.sizes
 
 -- where a size stops
-pub size_untested : (face : Face) (a : Job) (b : LabelBox) (j : JobFault) → size_tested a.ppem ≡ Err j → size_tried face a b ≡ Err (job j)
+pub size_untested : (face : Face) (a : Job) (b : BoxPlace) (j : JobFault) → size_tested a.ppem ≡ Err j → size_tried face a b ≡ Err (job j)
 unfolding size_tried tested
 size_untested face a b j fails = rw fails refl
 
-pub begun_stops_size : (face : Face) (a : Job) (b : LabelBox) (e : DrawFault) → IfSome (refusal e) (λ r. begun_outcome face a ≡ Err r)
+pub begun_stops_size : (face : Face) (a : Job) (b : BoxPlace) (e : DrawFault) → IfSome (refusal e) (λ r. begun_outcome face a ≡ Err r)
     → IfSome (refusal e) (λ r. size_tried face a b ≡ Err r)
 unfolding size_tried
 begun_stops_size face a b e = stops e (begun_outcome face a) (size_tried face a b) (λ r fails. rw fails refl)
 
-pub shapes_stop_size : (face : Face) (a : Job) (b : LabelBox) (s : Fitter) (h : RowHeights) (us : List (List RowUnit)) (lines : List Placement) (e : DrawFault)
+pub shapes_stop_size : (face : Face) (a : Job) (b : BoxPlace) (s : Fitter) (h : RowHeights) (us : List (List RowUnit)) (lines : List Placement) (e : DrawFault)
     → begun_outcome face a ≡ Ok s → h ≡ row_heights face.metrics a.ppem → us ≡ units_in face a s → laid_if_fits h b us ≡ Some lines → setting_in face a ≡ Ok s
     → IfSome (refusal e) (λ r. shapes_made face a (gathered (units_glyphs face a)) ≡ Err r) → IfSome (refusal e) (λ r. size_tried face a b ≡ Err r)
 unfolding size_tried
@@ -83,14 +82,14 @@ shapes_stop_size face a b s h us lines e begun high units fits there =
     let told = rw there at fails in rw (begun, laid, told) refl)
 
 -- and what it is
-pub size_not_fitted : (face : Face) (a : Job) (b : LabelBox) (s : Fitter) (h : RowHeights) (us : List (List RowUnit)) (n : ℕ)
+pub size_not_fitted : (face : Face) (a : Job) (b : BoxPlace) (s : Fitter) (h : RowHeights) (us : List (List RowUnit)) (n : ℕ)
     → begun_outcome face a ≡ Ok s → h ≡ row_heights face.metrics a.ppem → us ≡ units_in face a s → laid_if_fits h b us ≡ None → n ≡ begun_cost face a s
     → size_tried face a b ≡ Ok (record { shown = None; cost = n })
 unfolding size_tried
 size_not_fitted face a b s h us n begun high units fits cost =
     let laid = rw (high, units) at fits in rw (begun, laid, cost) refl
 
-pub size_drawn : (face : Face) (a : Job) (b : LabelBox) (s : Fitter) (h : RowHeights) (us : List (List RowUnit)) (lines : List Placement) (made : List Glyph) (n : ℕ)
+pub size_drawn : (face : Face) (a : Job) (b : BoxPlace) (s : Fitter) (h : RowHeights) (us : List (List RowUnit)) (lines : List Placement) (made : List Glyph) (n : ℕ)
     → begun_outcome face a ≡ Ok s → h ≡ row_heights face.metrics a.ppem → us ≡ units_in face a s → laid_if_fits h b us ≡ Some lines → setting_in face a ≡ Ok s
     → AreReady face a s (units_glyphs face a) made n
     → size_tried face a b ≡ Ok (record {

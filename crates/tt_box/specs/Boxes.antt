@@ -1,7 +1,6 @@
 -- No part of the standard: the picture of a label that fills a box, at the greatest size that its text fits (profile). No
 -- word is broken, no ink lies outside of the box, and the rows stand in the middle.
 use Rattle.std.specs.Prelude.{◌≡◌, refl, ℕ, zero, suc, ◌+◌, ◌-◌, ◌*◌, Bool, true, false, not, ◌&&◌, nat_lt, if◌then◌else◌, pos, negsuc, int_le, int_lt, List, [], ◌∷◌, length, map, Option, None, Some, Result, Ok, Err}
-use Rattle.tt_box.specs.declared.place.LabelBox.{LabelBox}
 use Rattle.tt_core.specs.declared.fault.JobFault.TheVariants as fault
 use Rattle.tt_core.specs.Outcomes.{◌>>=◌}
 use Rattle.tt_face.specs.Faces.{Face}
@@ -14,6 +13,8 @@ use Rattle.tt_label_rows.specs.declared.heights.RowHeights.{RowHeights}
 use Rattle.tt_label_rows.specs.Heights.{row_heights}
 use Rattle.tt_label_rows.specs.Pictures.{box_picture, first_rise, is_low, rows_placed}
 use Rattle.tt_label_rows.specs.Rows.{breaks_word, text_rows}
+use Rattle.tt_line.specs.declared.align.Align.{Align}
+use Rattle.tt_line.specs.declared.align.Align.TheVariants as align
 use Rattle.tt_line.specs.Labels.{widest}
 use Rattle.tt_line.specs.Layout.{Placement}
 use Rattle.tt_picture.specs.declared.ink_box.InkBox.{InkBox}
@@ -27,13 +28,20 @@ use Rattle.tt_strike.specs.Picture.{frame_of, line_shapes}
 use Rattle.tt_strike.specs.Refusals.{Refused, as_job, job}
 use Rattle.tt_strike.specs.Work.{lays_after_glyphs, line_fitter, work_left}
 
+-- a box, in pixels, with a margin on each side
+pub record BoxPlace : Type 0 where
+  pub width : ℕ
+  pub height : ℕ
+  pub margin : ℕ
+  pub align : Align
+
 -- rows in the middle of a box
-abbrev pub laid_in_box : RowHeights → LabelBox → List (List (ℕ × ℕ)) → List Placement
+abbrev pub laid_in_box : RowHeights → BoxPlace → List (List (ℕ × ℕ)) → List Placement
 laid_in_box h b rows =
     rows_placed (box_picture b.width b.height b.margin b.align) h.step (first_rise h (length rows - 1) b.height b.margin) rows
 
 -- rows of a text in a box, if no word is broken, no row is wider than the room, and they are low enough
-abbrev pub laid_if_fits : RowHeights → LabelBox → List (List RowUnit) → Option (List Placement)
+abbrev pub laid_if_fits : RowHeights → BoxPlace → List (List RowUnit) → Option (List Placement)
 laid_if_fits h b lines =
     let room = b.width - 2 * b.margin in
     let rows = text_rows room lines in
@@ -53,12 +61,12 @@ pub record Tried : Type 0 where
   pub cost : ℕ
 
 -- rows whose glyphs are made, in a box, if their ink lies in it
-abbrev pub shown_in_box : LabelBox → ℕ → (ℕ → Fitter) → Option InkBox → List Placement → Option Image
+abbrev pub shown_in_box : BoxPlace → ℕ → (ℕ → Fitter) → Option InkBox → List Placement → Option Image
 shown_in_box b margin maker ink lines =
     if is_inside b.width b.height ink then Some (image (frame_of (joint lines) margin) (some_line_shows maker margin lines)) else None
 
 -- rows that fit by words, width and height
-abbrev pub drawn_in_box : Face → Job → LabelBox → Fitter → List Placement → Result Tried Refused
+abbrev pub drawn_in_box : Face → Job → BoxPlace → Fitter → List Placement → Result Tried Refused
 drawn_in_box face a b s lines =
     let gs = units_glyphs face a in
     line_shapes s a (gathered gs) >>= λ shapes.
@@ -71,17 +79,17 @@ drawn_in_box face a b s lines =
 abbrev pub begun_cost : Face → Job → Fitter → ℕ
 begun_cost face a s = if lays_after_glyphs a.fit then cost_of (work_left s (units_glyphs face a)) 0 else 0
 
-abbrev pub tried_rows : Face → Job → LabelBox → Fitter → Option (List Placement) → Result Tried Refused
+abbrev pub tried_rows : Face → Job → BoxPlace → Fitter → Option (List Placement) → Result Tried Refused
 tried_rows face a b s None = Ok (record { shown = None; cost = begun_cost face a s })
 tried_rows face a b s (Some lines) = drawn_in_box face a b s lines
 
 -- a text at the size of a job, or the first refusal
-unfoldable pub size_tried : Face → Job → LabelBox → Result Tried Refused
+unfoldable pub size_tried : Face → Job → BoxPlace → Result Tried Refused
 size_tried face a b =
     begun_outcome face a >>= λ s. tried_rows face a b s (laid_if_fits (row_heights face.metrics a.ppem) b (units_in face a s))
 
 -- a row of a size is too high for a box, so no glyph is made
-abbrev pub is_too_high : Face → LabelBox → ℕ → Bool
+abbrev pub is_too_high : Face → BoxPlace → ℕ → Bool
 is_too_high face b ppem = not (is_low (row_heights face.metrics ppem) 0 b.height b.margin)
 
 -- the work that remains before the first size is tried, and after one: none where the size took more
@@ -101,7 +109,7 @@ pub record Stepped : Type 0 where
   pub shown : Option Image
   pub left : Option ℕ
 
-unfoldable pub step_at : Face → Job → LabelBox → Option ℕ → Result Stepped Refused
+unfoldable pub step_at : Face → Job → BoxPlace → Option ℕ → Result Stepped Refused
 step_at face a b left =
     if is_too_high face b a.ppem then Ok (record { shown = None; left = left })
     else some_left left >>= λ work.
@@ -118,7 +126,7 @@ boxed_or ppem (Some i) others = Ok (Some (record { ppem = ppem; shown = i }))
 boxed_or ppem None others = others
 
 -- the first of n sizes that fits, from the greatest down to a least one, with the work that remains
-abbrev pub boxed_from : Face → (ℕ → Job) → LabelBox → ℕ → ℕ → Option ℕ → Result (Option Boxed) Refused
+abbrev pub boxed_from : Face → (ℕ → Job) → BoxPlace → ℕ → ℕ → Option ℕ → Result (Option Boxed) Refused
 boxed_from face a b least zero left = Ok None
 boxed_from face a b least (suc n) left =
     step_at face (a (least + n)) b left >>= λ t.
@@ -129,13 +137,21 @@ abbrev pub least_size : ℕ → ℕ
 least_size greatest = if nat_lt greatest 5 then greatest else 5
 
 -- a text in a box at the greatest size, or the first refusal; none where it fits at no size
-unfoldable pub box_outcome : Face → Fit → ℕ → List ℕ → LabelBox → Result (Option Boxed) Refused
+unfoldable pub box_outcome : Face → Fit → ℕ → List ℕ → BoxPlace → Result (Option Boxed) Refused
 box_outcome face how greatest text b =
     as_job (margin_tested b.margin) >>= λ u.
     as_job (text_tested text) >>= λ u.
     boxed_from face (λ ppem. job_for ppem how text b.margin) b (least_size greatest) (suc (greatest - least_size greatest)) (Some box_work)
 
--- worked values
+-- worked values: a row of 3 columns at the right of a room of 7, and in the middle of 10 rows of pixels
+its_place : BoxPlace
+its_place = record { width = 9; height = 12; margin = 1; align = align.Right }
+
+a_row_in_a_box : laid_in_box (record { rise = pos 4; depth = pos 1; step = 6 }) its_place (((5, 3) ∷ []) ∷ [])
+    ≡ record { width = 9; height = 12; rise = pos 6; glyphs = (5, 4) ∷ [] } ∷ []
+unfolding its_place
+a_row_in_a_box = refl
+
 its_box : InkBox
 its_box = record { left = pos 0; top = pos 1; right = pos 8; bottom = pos 4 }
 

@@ -1,7 +1,7 @@
 -- No part of the standard: the definitions' views of rows in a box, of a tried size, and of a picture that fills a box.
 use Rattle.std.specs.Prelude.{◌≡◌, ◌≤◌, All, List, Option, None, Some, Ok, Vec, length, map}
 use Rattle.std.specs.Global.{Global}
-use Rattle.tt_box.specs.Boxes.{Boxed, Stepped, Tried}
+use Rattle.tt_box.specs.Boxes.{BoxPlace, Boxed, Stepped, Tried}
 use Rattle.tt_box.specs.declared.boxing.BoxLabel.{BoxLabel}
 use Rattle.tt_box.specs.declared.boxing.SizeStep.{SizeStep}
 use Rattle.tt_box.specs.declared.place.LabelBox.{LabelBox}
@@ -18,6 +18,9 @@ use Rattle.tt_strike.specs.Costs.{line_cost}
 use Rattle.tt_strike.specs.declared.laid.Laid.{Laid}
 use Rattle.tt_strike.specs.Job.{Job}
 use Rattle.tt_strike.specs.Report.{line_report}
+
+abbrev pub place_of : LabelBox → BoxPlace
+place_of b = record { width = b.width; height = b.height; margin = b.margin; align = b.align }
 
 abbrev pub lines_of : Option (Vec Line Global) → Option (List Placement)
 lines_of None = None
@@ -42,13 +45,13 @@ boxed_view None = None
 boxed_view (Some l) = Some (record { ppem = l.ppem; shown = image_of l.picture })
 
 -- at least one row, all of the size of their box and with its margin
-pub record AreBoxed (b : LabelBox) (lines : List Laid) : Type 0 where
+pub record AreBoxed (b : BoxPlace) (lines : List Laid) : Type 0 where
   pub some : 1 ≤ length lines
   pub margins : All (λ l. l.margin ≡ b.margin) lines
   pub sizes : All (λ l. (l.width ≡ b.width) × (l.height ≡ b.height)) (placements_of lines)
 
 -- a picture that fills a box, with the report and the cost of all glyphs of the text of a job
-pub record FillsBox (face : Face) (a : Job) (b : LabelBox) (p : Picture) : Type 0 where
+pub record FillsBox (face : Face) (a : Job) (b : BoxPlace) (p : Picture) : Type 0 where
   pub ready : IsReady p
   pub width : p.frame.width ≡ b.width
   pub height : p.frame.height ≡ b.height

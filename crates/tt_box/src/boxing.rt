@@ -2,7 +2,7 @@
 
 ghost use Rattle.std.specs.Prelude.{◌≡◌, ℕ, ◌+◌, ◌≤◌, ◌^◌, Ok, IfOk, IfSome};
 ghost use Rattle.tt_box.specs.Boxes.{box_outcome, is_too_high, least_size, left_after, size_tried, step_at};
-ghost use Rattle.tt_box.specs.Views.{FillsBox, boxed_view, step_view, tried_view};
+ghost use Rattle.tt_box.specs.Views.{FillsBox, boxed_view, place_of, step_view, tried_view};
 ghost use Rattle.tt_core.specs.Limits.{size_limit};
 ghost use Rattle.tt_core.specs.Outcomes.{GivesUnless};
 ghost use Rattle.tt_label.specs.Gathered.{gathered, units_glyphs};
@@ -56,7 +56,7 @@ fn left_after(left: u64, cost: u64) -> Option<u64>
 /// Whether a row of this size is too high for a box.
 fn is_too_high(face: &Face, ppem: u32, place: LabelBox) -> bool
     requires { ppem ≤ size_limit }
-    ensures { result ≡ is_too_high face.now place ppem }
+    ensures { result ≡ is_too_high face.now (place_of place) ppem }
 {
     !is_low(
         row_heights(face.metrics(), ppem),
@@ -75,8 +75,8 @@ fn try_at(
 ) -> Result<TriedSize, DrawFault>
     requires low { 1 ≤ ppem }
     requires high { ppem ≤ size_limit }
-    ensures exact { GivesUnless refusal tried_view result (size_tried source.now.face.now (job_for ppem source.now.fit text.now place.margin) place) }
-    ensures fills { IfOk result (λ t. IfSome t.picture (FillsBox source.now.face.now (job_for ppem source.now.fit text.now place.margin) place)) }
+    ensures exact { GivesUnless refusal tried_view result (size_tried source.now.face.now (job_for ppem source.now.fit text.now place.margin) (place_of place)) }
+    ensures fills { IfOk result (λ t. IfSome t.picture (FillsBox source.now.face.now (job_for ppem source.now.fit text.now place.margin) (place_of place))) }
 {
     let mut sized = SizedFace::new(source.alloc, source.face, ppem, source.fit)?;
     try_size(&mut sized, text, place)
@@ -100,8 +100,8 @@ fn next_size(
     requires low { 1 ≤ ppem }
     requires high { ppem ≤ size_limit }
     requires work { IfSome left (λ n. n ≤ 2 ^ 40) }
-    ensures exact { GivesUnless refusal step_view result (step_at source.now.face.now (job_for ppem source.now.fit text.now place.margin) place left) }
-    ensures fills { IfOk result (λ t. IfSome t.picture (FillsBox source.now.face.now (job_for ppem source.now.fit text.now place.margin) place)) }
+    ensures exact { GivesUnless refusal step_view result (step_at source.now.face.now (job_for ppem source.now.fit text.now place.margin) (place_of place) left) }
+    ensures fills { IfOk result (λ t. IfSome t.picture (FillsBox source.now.face.now (job_for ppem source.now.fit text.now place.margin) (place_of place))) }
     ensures bound { IfOk result (λ t. (most : ℕ) → IfSome left (λ n. n ≤ most) → IfSome t.left (λ n. n ≤ most + 4000000)) }
 {
     if is_too_high(source.face, ppem, place) {
@@ -133,7 +133,7 @@ pub fn label_in_box(
     text: &str,
     place: LabelBox,
 ) -> Result<Option<BoxLabel>, DrawFault>
-    ensures exact { GivesUnless refusal boxed_view result (box_outcome source.now.face.now source.now.fit source.now.ppem text.now place) }
+    ensures exact { GivesUnless refusal boxed_view result (box_outcome source.now.face.now source.now.fit source.now.ppem text.now (place_of place)) }
     ensures valid { IfOk result (λ r. IfSome r (λ l. IsReady l.picture)) }
     ensures width { IfOk result (λ r. IfSome r (λ l. l.picture.frame.width ≡ place.width)) }
     ensures height { IfOk result (λ r. IfSome r (λ l. l.picture.frame.height ≡ place.height)) }

@@ -3,7 +3,7 @@
 ghost use Rattle.std.specs.List.{sum_by};
 ghost use Rattle.std.specs.Prelude.{◌≡◌, ◌≤◌, length, map, All, IfOk, IfSome};
 ghost use Rattle.tt_box.specs.Boxes.{laid_if_fits};
-ghost use Rattle.tt_box.specs.Views.{AreBoxed, lines_of, rows_of};
+ghost use Rattle.tt_box.specs.Views.{AreBoxed, lines_of, place_of, rows_of};
 ghost use Rattle.tt_core.specs.Limits.{text_limit};
 ghost use Rattle.tt_label_rows.specs.Pictures.{AreHeights};
 ghost use Rattle.tt_rows.specs.Rows.{one_at_least};
@@ -29,7 +29,7 @@ fn lines_in_box(
     requires heights { AreHeights heights }
     requires few { All (λ l. length l.items ≤ text_limit) units.now }
     requires rows { sum_by (λ l. one_at_least (length l.items)) units.now ≤ text_limit }
-    ensures { IfOk result (λ r. lines_of r ≡ laid_if_fits heights place (map (λ l. l.items) units.now)) }
+    ensures { IfOk result (λ r. lines_of r ≡ laid_if_fits heights (place_of place) (map (λ l. l.items) units.now)) }
 {
     let all = text_rows(alloc, units, place.width - 2 * place.margin)?;
     let TextRows { rows, broken } = all;
@@ -61,8 +61,8 @@ pub(crate) fn rows_in_box(
     requires few { All (λ l. length l.items ≤ text_limit) units.now }
     requires rows { sum_by (λ l. one_at_least (length l.items)) units.now ≤ text_limit }
     requires some { 1 ≤ length units.now }
-    ensures exact { IfOk result (λ r. rows_of r ≡ laid_if_fits heights place (map (λ l. l.items) units.now)) }
-    ensures boxed { IfOk result (λ r. IfSome r (λ v. AreBoxed place v.items)) }
+    ensures exact { IfOk result (λ r. rows_of r ≡ laid_if_fits heights (place_of place) (map (λ l. l.items) units.now)) }
+    ensures boxed { IfOk result (λ r. IfSome r (λ v. AreBoxed (place_of place) v.items)) }
 {
     let lines = lines_in_box(alloc, heights, units, place)?;
     let Some(lines) = lines else {

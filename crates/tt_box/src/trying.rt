@@ -3,7 +3,7 @@
 ghost use Rattle.std.specs.Prelude.{◌≡◌, ℕ, map, All, IfOk, IfSome, Option};
 ghost use Rattle.tt_bitmap.specs.declared.ink.LeastBox.{LeastBox};
 ghost use Rattle.tt_box.specs.Boxes.{begun_cost, is_inside, shown_in_box, size_tried};
-ghost use Rattle.tt_box.specs.Views.{AreBoxed, FillsBox, shown_of, tried_view};
+ghost use Rattle.tt_box.specs.Views.{AreBoxed, FillsBox, place_of, shown_of, tried_view};
 ghost use Rattle.tt_core.specs.Outcomes.{GivesUnless};
 ghost use Rattle.tt_face.specs.Faces.{Face};
 ghost use Rattle.tt_fit.specs.Fitting.{Fitter};
@@ -74,11 +74,11 @@ fn draw_in_box(
     inked: &InkedGlyphs,
     place: LabelBox,
 ) -> Result<Option<Picture>, AllocError>
-    requires boxed { AreBoxed place lines.now }
+    requires boxed { AreBoxed (place_of place) lines.now }
     requires among { All (λ l. HasGlyphsOf (numbers_of inked.now.glyphs.made.items) l.line.glyphs.items) lines.now }
     ensures exact { IfOk result (λ r. (ink : ℕ → Option LeastBox) (maker : ℕ → Fitter)
         → inked.now.inks.items ≡ map ink (numbers_of inked.now.glyphs.made.items) → AreDrawn maker inked.now.glyphs.made.items
-        → shown_of r ≡ shown_in_box place place.margin maker (label_ink ink place.margin (placements_of lines.now)) (placements_of lines.now)) }
+        → shown_of r ≡ shown_in_box (place_of place) place.margin maker (label_ink ink place.margin (placements_of lines.now)) (placements_of lines.now)) }
     ensures valid { IfOk result (λ r. IfSome r IsReady) }
     ensures sides { IfOk result (λ r. IfSome r (λ p. (p.frame.width ≡ place.width) × (p.frame.height ≡ place.height))) }
     ensures unfitted { IfOk result (λ r. IfSome r (λ p. p.unfitted ≡ unfitted_standing inked.now.glyphs.made.items)) }
@@ -101,8 +101,8 @@ pub(crate) fn try_size(
     text: &str,
     place: LabelBox,
 ) -> Result<TriedSize, DrawFault>
-    ensures exact { GivesUnless refusal tried_view result (size_tried sized.old.face (job_by sized.old text.now place.margin) place) }
-    ensures fills { IfOk result (λ t. IfSome t.picture (FillsBox sized.old.face (job_by sized.old text.now place.margin) place)) }
+    ensures exact { GivesUnless refusal tried_view result (size_tried sized.old.face (job_by sized.old text.now place.margin) (place_of place)) }
+    ensures fills { IfOk result (λ t. IfSome t.picture (FillsBox sized.old.face (job_by sized.old text.now place.margin) (place_of place))) }
 {
     let alloc = sized.alloc();
     let mut cache = Cache::absent();

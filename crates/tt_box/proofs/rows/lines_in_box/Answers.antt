@@ -3,6 +3,7 @@ use Rattle.std.proofs.lemmas.Int.{ints, to_z-of_z}
 use Rattle.std.proofs.lemmas.List.{length-map}
 use Rattle.tt_box.proofs.RowsFit.{low_fits, room_of}
 use Rattle.tt_box.specs.Boxes.{laid_in_box}
+use Rattle.tt_box.specs.Views.{place_of}
 use Rattle.tt_label_rows.specs.Pictures.{is_low}
 use Rattle.tt_label_rows.specs.Rows.{breaks_word, text_rows}
 use Rattle.tt_line.specs.Labels.{widest}
@@ -12,7 +13,7 @@ use Rattle.tt_box.proofs.rows.lines_in_box.Goals as goal
 
 pub returns : goal.returns
 returns c =
-    let b = c.args.place in
+    let b = place_of c.args.place in
     let room = room_of b in
     let us = map (λ (v : Vec RowUnit Global). v.items) c.args.units.now in
     let rows = c.in_ok-all.ensures.rows in

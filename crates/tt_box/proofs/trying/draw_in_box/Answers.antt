@@ -1,6 +1,7 @@
 use Rattle.std.proofs.Common.{◌≡◌, ◌∙◌, ap, sym, Some, arith}
 use Rattle.std.proofs.lemmas.List.{length-map}
 use Rattle.tt_box.proofs.Tries.{alike_boxed, inside_shown, joint_sized, outside_not}
+use Rattle.tt_box.specs.Views.{place_of}
 use Rattle.tt_label.specs.Label.{joint}
 use Rattle.tt_label.specs.Views.{placements_of}
 use Rattle.tt_label.proofs.Larger.{first_frame}
@@ -23,11 +24,11 @@ new-requires-clause-lines c =
     let numbers = numbers_of c.args.inked.now.glyphs.made.items in
     rw (c.deref.ensures.value, frame_then at.After-frame-frame)
     (are_lines numbers c.args.place.margin c.in_ok-placed.placed.items c.args.lines.now c.in_ok-placed.ensures
-    (alike_boxed c.args.place c.args.lines.now c.requires.boxed) c.requires.among)
+    (alike_boxed (place_of c.args.place) c.args.lines.now c.requires.boxed) c.requires.among)
 
 pub returns-then-not-is_inside-clause-exact : goal.returns-then-not-is_inside-clause-exact
 returns-then-not-is_inside-clause-exact c = λ ink maker inks drawn.
-    sym (outside_not c.args.place c.args.place.margin maker c.label_ink-ink.result _ (placements_of c.args.lines.now)
+    sym (outside_not (place_of c.args.place) c.args.place.margin maker c.label_ink-ink.result _ (placements_of c.args.lines.now)
     (c.label_ink-ink.ensures ink c.args.place.margin inks c.requires.boxed.margins) (sym c.is_inside.ensures ∙ c.if-not-is_inside.true))
 
 pub returns-clause-exact : goal.returns-clause-exact
@@ -37,7 +38,7 @@ returns-clause-exact c = λ ink maker inks drawn.
     let painted = rw c.deref.ensures.value at (c.in_ok-new.ensures.exact maker drawn) in
     let whole = painted ∙ placed_image maker c.frame-frame.result margin c.in_ok-placed.placed.items c.args.lines.now c.in_ok-placed.ensures c.requires.boxed.margins in
     let frame = frame_then at.After-frame-frame in
-    let shown = inside_shown c.args.place margin maker c.label_ink-ink.result _ (placements_of c.args.lines.now)
+    let shown = inside_shown (place_of c.args.place) margin maker c.label_ink-ink.result _ (placements_of c.args.lines.now)
     (c.label_ink-ink.ensures ink margin inks c.requires.boxed.margins) (sym c.is_inside.ensures ∙ c.if-not-is_inside.false) in
     ap Some (rw frame at whole) ∙ sym shown
 
