@@ -2,6 +2,7 @@
  * standard output, WRONG and a reason where a call does not keep to what tt_render.h says of it.
  *
  *   draw FONT TEXT SIZE MARGIN FIT GROW KERN ROUNDED
+ *   label FONT TEXT SIZE MARGIN FIT ALIGN KERN ROUNDED WIDTH BOX_WIDTH BOX_HEIGHT
  *   measure FONT TEXT SIZE MARGIN FIT GROW KERN ROUNDED
  *   map FONT TEXT
  *   lines FONT TEXT,TEXT.. SIZE MARGIN FIT GROW KERN ROUNDED
@@ -10,6 +11,8 @@
  * begins with the status. After 0 come for `draw` how many glyphs are not fitted and the picture in hexadecimal, for
  * `measure` and `map` the program's lines, each with '/' behind it; else the line of the refusal. For `lines` the
  * number of the lines that are drawn, of all glyphs in them that are not fitted, and their pictures come before that.
+ * For `label` the numbers of missing characters, and of columns that are cut at the left and at the right, stand between
+ * the number of glyphs that are not fitted and the picture.
  */
 #define _DEFAULT_SOURCE
 #include <inttypes.h>
@@ -103,6 +106,32 @@ static void write_draw(const struct question *q) {
            "tt_measure tells of another picture than tt_draw");
   }
   forget(measure);
+  forget(it);
+}
+
+static void write_label(const struct question *q) {
+  struct outcome it = tried(&labels, q);
+  printf("%u ", it.answer.status);
+  if (it.answer.status != TT_DONE) {
+    fputs(message_of(&it.answer), stdout);
+  } else {
+    struct tt_label told = *(struct tt_label *)it.told.at;
+    const struct tt_picture *picture = &told.picture;
+    expect(picture->row_bytes == (picture->width + 7) / 8 && it.answer.count == picture->height &&
+               it.answer.bytes == it.room.size && it.room.size == (size_t)picture->row_bytes * picture->height,
+           "tt_label: %u columns, %u rows of %" PRIu64 " bytes in %zu", picture->width, picture->height,
+           picture->row_bytes, it.room.size);
+    uint32_t most = ((const struct tt_job *)q->job.at)->size;
+    expect(told.size == most || (q->box_width != 0 && 0 < told.size && told.size < most), "tt_label: size %" PRIu64,
+           told.size);
+    expect(q->width == 0 || picture->width == q->width, "tt_label: %u columns, and not %u", picture->width, q->width);
+    expect(q->box_width == 0 || (picture->width == q->box_width && picture->height == q->box_height),
+           "tt_label: %u columns and %u rows, and not %u and %u", picture->width, picture->height, q->box_width,
+           q->box_height);
+    printf("%" PRIu64 " %" PRIu64 " %" PRIu64 " %" PRIu64 " ", picture->unfitted, told.missing, told.cut_left,
+           told.cut_right);
+    write_picture(picture, it.room.at);
+  }
   forget(it);
 }
 
@@ -254,9 +283,9 @@ static struct room read_texts(char *words, struct room *ends) {
 }
 
 static void answer(char *line) {
-  const char *words[9] = {"", "", "", "0", "0", "0", "0", "0", "0"};
+  const char *words[12] = {"", "", "", "0", "0", "0", "0", "0", "0", "0", "0", "0"};
   size_t count = 0;
-  for (char *word = strtok(line, " \n"); word && count < 9; word = strtok(NULL, " \n")) words[count++] = word;
+  for (char *word = strtok(line, " \n"); word && count < 12; word = strtok(NULL, " \n")) words[count++] = word;
   struct tt_job job = {.size = (uint32_t)strtoul(words[3], NULL, 10),
                        .margin = (uint32_t)strtoul(words[4], NULL, 10),
                        .fit = (uint32_t)strtoul(words[5], NULL, 10),
@@ -269,6 +298,13 @@ static void answer(char *line) {
   if (are_lines) give_up(q.ends);
   q.text = are_lines ? read_texts((char *)words[2], &q.ends) : held_hex(words[2], strlen(words[2]));
   if (strcmp(words[0], "draw") == 0) write_draw(&q);
+  if (strcmp(words[0], "label") == 0) {
+    q.align = (uint32_t)strtoul(words[6], NULL, 10);
+    q.width = (uint32_t)strtoul(words[9], NULL, 10);
+    q.box_width = (uint32_t)strtoul(words[10], NULL, 10);
+    q.box_height = (uint32_t)strtoul(words[11], NULL, 10);
+    write_label(&q);
+  }
   if (strcmp(words[0], "measure") == 0) write_measure(&q);
   if (strcmp(words[0], "map") == 0) write_map(&q);
   if (are_lines) write_lines(&q);

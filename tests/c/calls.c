@@ -65,6 +65,24 @@ static uint32_t ask_band(const struct question *q, struct room room, void *told,
   return tt_draw_band(FONT, TEXT, JOB, q->first, q->count, room.at, room.size, told, answer);
 }
 
+static uint32_t ask_label(const struct question *q, struct room room, void *told, struct tt_answer *answer) {
+  const struct tt_job *job = JOB;
+  struct room label = held(&(struct tt_label_job){.size = job->size,
+                                                  .margin = job->margin,
+                                                  .fit = job->fit,
+                                                  .face = job->face,
+                                                  .kern = job->kern,
+                                                  .rounded = job->rounded,
+                                                  .align = q->align,
+                                                  .width = q->width,
+                                                  .box_width = q->box_width,
+                                                  .box_height = q->box_height},
+                           sizeof(struct tt_label_job));
+  uint32_t status = tt_label(FONT, TEXT, (const struct tt_label_job *)label.at, room.at, room.size, told, answer);
+  give_up(label);
+  return status;
+}
+
 static uint32_t ask_strike(const struct question *q, struct room room, void *told, struct tt_answer *answer) {
   (void)room;
   return tt_strike(FONT, JOB, told, answer);
@@ -99,6 +117,7 @@ const struct call maps = {"tt_map", ask_map, sizeof(struct tt_glyph), 0, true, f
 const struct call maps_face = {"tt_map_face", ask_map_face, sizeof(struct tt_glyph), 0, true, false, 0};
 const struct call draws = {"tt_draw", ask_draw, 1, sizeof(struct tt_picture), true, true, 4};
 const struct call draws_band = {"tt_draw_band", ask_band, 1, sizeof(struct tt_picture), true, true, 4};
+const struct call labels = {"tt_label", ask_label, 1, sizeof(struct tt_label), true, true, 4};
 const struct call measures = {"tt_measure", ask_measure, 0, sizeof(struct tt_measure), true, true, 5};
 const struct call characters = {"tt_characters", ask_characters, sizeof(struct tt_character), 0, true, true, 5};
 const struct call strikes = {"tt_strike", ask_strike, 0, sizeof(struct tt_strike), false, true, 0};
@@ -107,7 +126,7 @@ const struct call pens = {"tt_pens", ask_pens, sizeof(struct tt_pen), 0, true, t
 const struct call glyphs = {"tt_glyphs", ask_glyphs, 1, LIST * sizeof(struct tt_bitmap), false, true, 4};
 const struct call messages = {"tt_message", ask_message, 1, 0, false, false, 1};
 
-const struct call *const every_call[] = {&opens,   &maps,    &draws, &draws_band, &measures, &characters,
+const struct call *const every_call[] = {&opens,   &maps,    &draws, &draws_band, &labels,   &measures, &characters,
                                          &strikes, &layouts, &pens,  &glyphs,     &messages, NULL};
 
 bool are_alike(const struct tt_answer *one, const struct tt_answer *other) {

@@ -11,6 +11,7 @@ struct question {
   struct room ends; /* of tt_draw_lines, with text and keep */
   size_t keep;
   uint32_t first, count; /* of tt_draw_band */
+  uint32_t align, width, box_width, box_height; /* of tt_label, beside what its job shares with job */
   struct room told;      /* of tt_message */
 };
 
@@ -27,7 +28,7 @@ struct call {
 };
 
 extern const struct call opens, opens_face, maps, maps_face, measures, characters, strikes, layouts, pens, glyphs,
-    draws, draws_band, messages;
+    draws, draws_band, labels, messages;
 
 /* Each of these, and then NULL; tt_draw_lines is in lines.h. */
 extern const struct call *const every_call[];

@@ -37,6 +37,7 @@ static void all_refuse(const char *name, struct room with, struct room text, str
   for (const struct call *const *it = every_call; *it; it++) {
     const struct call *call = *it;
     if (!call->has_text || (!call->has_job && !all)) continue;
+    if (call == &labels && number == 62) continue; /* no label is empty */
     struct tt_answer answer = answer_to(call, with, text, job);
     expect(answer.status == status && answer.number == number, "%s: status %u, number %u", call->name, answer.status,
            answer.number);
@@ -127,6 +128,14 @@ static void try_nothing(struct room text) {
          "tt_draw, of rows: status %u", answer.status);
   expect(tt_draw_band(font.at, font.size, NULL, 0, &wide, 0, 0, NULL, 0, &told, &answer) == TT_DONE,
          "tt_draw_band: status %u", answer.status);
+  struct tt_label_job label = {.size = 16, .fit = TT_FULL};
+  struct tt_label told_label;
+  expect(tt_label(font.at, font.size, NULL, 0, &label, NULL, 0, &told_label, &answer) == TT_ROOM &&
+             answer.bytes <= sizeof rows,
+         "tt_label: status %u", answer.status);
+  expect(tt_label(font.at, font.size, NULL, 0, &label, rows, sizeof rows, &told_label, &answer) == TT_DONE &&
+             told_label.picture.width == 1 && told_label.missing == 0,
+         "tt_label, of rows: status %u", answer.status);
   expect(tt_draw_lines(font.at, font.size, NULL, 0, NULL, 0, &wide, 0, NULL, 0, NULL, 0, &answer) == TT_DONE &&
              answer.bytes == 0 && answer.count == 0,
          "tt_draw_lines: status %u", answer.status);
@@ -184,6 +193,69 @@ static void try_lists(void) {
   expect(tt_version() == TT_RENDER_VERSION, "tt_version: %" PRIu32, tt_version());
   verdict("the version");
   give_up(none);
+}
+
+/* The refusals of a label's own fields, in their order, and what is just not refused. */
+static void try_labels(void) {
+  static char many[4097];
+  memset(many, 'A', sizeof many);
+  struct room none = held(NULL, 0), one = text_of("A"), wrong = text_of("\xff"), large = held(many, sizeof many);
+  const struct {
+    const char *name;
+    struct room with, text;
+    struct tt_label_job job;
+    uint32_t status, number;
+  } cases[] = {
+      {"a label's fit of 4, and an alignment of 3", font, one, {.size = 16, .fit = 4, .align = 3}, TT_JOB, 66},
+      {"an alignment of 3, and bytes that are no UTF-8", font, wrong, {.size = 16, .align = 3}, TT_JOB, 72},
+      {"the largest number as alignment", none, one, {.align = UINT32_MAX}, TT_JOB, 72},
+      {"a label's bytes that are no UTF-8, and a size of 0", font, wrong, {.width = 16385}, TT_NOT_UTF8, 0},
+      {"a label's size of 0, and a margin of 65", font, one, {.margin = 65, .width = 16385}, TT_JOB, 60},
+      {"a label's margin of 65, and a width", font, one, {.size = 16, .margin = 65, .width = 1}, TT_JOB, 64},
+      {"a box, and a width", font, one, {.size = 16, .width = 50, .box_width = 50, .box_height = 50}, TT_JOB, 70},
+      {"a box without a column", none, large, {.size = 16, .box_height = 50}, TT_JOB, 70},
+      {"a box without a row", font, one, {.size = 16, .box_width = UINT32_MAX}, TT_JOB, 70},
+      {"a box of 16,385 columns", font, one, {.size = 16, .box_width = 16385, .box_height = 9}, TT_JOB, 70},
+      {"a box of 4,097 rows", font, one, {.size = 16, .box_width = 9, .box_height = 4097}, TT_JOB, 70},
+      {"a box as wide as both margins", font, one, {16, 9, TT_BEST, 0, 0, 0, 0, 0, 18, 50}, TT_JOB, 70},
+      {"a box as high as both margins", font, one, {16, 9, TT_BEST, 0, 0, 0, 0, 0, 50, 18}, TT_JOB, 70},
+      {"a label's margin of 65, and a box", font, one, {.size = 16, .margin = 65, .box_width = 1}, TT_JOB, 64},
+      {"a box without a size", font, one, {.box_width = 50, .box_height = 50}, TT_JOB, 60},
+      {"a box for 4,097 characters", none, large, {.size = 16, .box_width = 50, .box_height = 50}, TT_JOB, 61},
+      {"a box of one pixel", font, one, {.size = 300, .box_width = 1, .box_height = 1}, TT_JOB, 71},
+      {"a box of a font of no byte", none, one, {.size = 16, .box_width = 50, .box_height = 50}, TT_FONT, 2},
+      {"a box that is larger than its text", font, one, {.size = 16, .box_width = 50, .box_height = 50}, TT_DONE, 0},
+      {"a width of 16,385", none, large, {.size = 16, .width = 16385}, TT_JOB, 69},
+      {"the largest number as width", font, one, {.size = 16, .width = UINT32_MAX, .fit = TT_BEST}, TT_JOB, 69},
+      {"a width of both margins", font, one, {.size = 16, .margin = 64, .width = 128}, TT_JOB, 69},
+      {"a label of 4,097 characters", none, large, {.size = 16, .width = 16384}, TT_JOB, 61},
+      {"a label by a font of no byte", none, one, {.size = 16, .width = 1}, TT_FONT, 2},
+      {"a width of one more than both margins", font, one, {.size = 16, .margin = 64, .width = 129}, TT_DONE, 0},
+      {"a width of 16,384", font, one, {.size = 16, .width = 16384, .align = TT_RIGHT}, TT_DONE, 0},
+      {"a label of face 0 by the number 1", font, one, {.size = 16, .face = 1, .align = TT_CENTRE}, TT_DONE, 0},
+  };
+  static uint8_t rows[1 << 20];
+  for (size_t i = 0; i < sizeof cases / sizeof *cases; i++) {
+    struct tt_label told = {.size = 7};
+    struct tt_answer answer;
+    uint32_t status = tt_label(cases[i].with.at, cases[i].with.size, cases[i].text.at, cases[i].text.size, &cases[i].job,
+                               rows, sizeof rows, &told, &answer);
+    expect_answer("tt_label", status, &answer);
+    expect(status == cases[i].status && answer.number == cases[i].number, "tt_label: status %u, number %u", status,
+           answer.number);
+    const struct tt_label_job *job = &cases[i].job;
+    uint32_t width = job->width ? job->width : job->box_width;
+    expect(status == TT_DONE ? told.size == 16 && (width == 0 || told.picture.width == width) &&
+                                   (job->box_height == 0 || told.picture.height == job->box_height)
+                             : told.size == 7,
+           "tt_label: status %u, and size %" PRIu64 ", %u columns and %u rows are told", status, told.size,
+           told.picture.width, told.picture.height);
+    verdict("%s", cases[i].name);
+  }
+  give_up(none);
+  give_up(one);
+  give_up(wrong);
+  give_up(large);
 }
 
 /* The offsets of the characters of a text. */
@@ -331,6 +403,7 @@ int main(int count, char **words) {
   try_nothing(text);
   try_faces(text);
   try_lists();
+  try_labels();
   try_all_offsets();
   try_all_ends();
   try_sizes(text);

@@ -16,7 +16,7 @@ static struct room font;
 static struct room *texts;
 static size_t texts_count;
 
-/* What a thread does: `turns` times pictures of all texts with all ways to fit, in its own room. `sum` is of all that
+/* What a thread does: `turns` times pictures, measures and labels of all texts with all ways to fit, in its own room. `sum` is of all that
  * it got, and `wrong` says how many calls were not done. */
 struct work {
   unsigned turns, wrong;
@@ -41,6 +41,13 @@ static void draw_once(struct work *work, struct room text, const struct tt_job *
   work->sum = added(added(work->sum, &told, sizeof told), work->rows, answer.bytes);
   if (tt_measure(font.at, font.size, text.at, text.size, job, &measure, &answer) != TT_DONE) work->wrong++;
   work->sum = added(work->sum, &measure, sizeof measure);
+  struct tt_label label;
+  struct tt_label_job label_job = {.size = job->size, .margin = job->margin, .fit = job->fit, .width = 20 * job->grow};
+  if (tt_label(font.at, font.size, text.at, text.size, &label_job, work->rows, sizeof work->rows, &label, &answer) !=
+      TT_DONE) {
+    work->wrong++;
+  }
+  work->sum = added(added(work->sum, &label, sizeof label), work->rows, answer.bytes);
 }
 
 static void *draw_all(void *given) {

@@ -17,7 +17,7 @@ OF_PYTHON = {"u32": "uint32_t", "i32": "int32_t", "u64": "uint64_t", "i64": "int
              "c_char * 4": "uint8_t[4]", "tt_box": "tt_box", "tt_picture": "tt_picture", "tt_underline": "tt_underline"}
 OF_RUST = {"u8": "uint8_t", "u32": "uint32_t", "i32": "int32_t", "u64": "uint64_t", "i64": "int64_t",
            "usize": "size_t", "c_int": "int", "[u8; 4]": "uint8_t[4]"}
-NAMES = {"Figures": "tt_font", "Shape": "tt_picture", "PixelBox": "tt_box"}
+NAMES = {"Figures": "tt_font", "Shape": "tt_picture", "PixelBox": "tt_box", "LabelJob": "tt_label_job"}
 
 
 def of_rust(kind):

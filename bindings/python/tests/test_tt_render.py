@@ -37,6 +37,13 @@ def ink(picture):
     return tt_render.Box(min(columns), min(rows), max(columns), max(rows))
 
 
+def pixels(picture):
+    """Returns the rows of a picture, each with a letter 0 or 1 for a pixel."""
+    row_bytes = (picture.width + 7) // 8
+    rows = [picture.rows[at : at + row_bytes] for at in range(0, len(picture.rows), row_bytes)]
+    return ["".join(f"{it:08b}" for it in row)[: picture.width] for row in rows]
+
+
 def drawn(bitmaps, picture):
     """Returns the rows of a picture that has these bitmaps one after the other, and no margin but the one of its ink."""
     row_bytes, black, pen = (picture.width + 7) // 8, set(), 0
@@ -65,16 +72,89 @@ class Calls(unittest.TestCase):
     def test_font(self):
         self.assertEqual((self.font.units_per_em, self.font.ascent, self.font.descent), (2048, 1901, -483))
 
-    def test_label(self):
+    def test_draw(self):
         for text in ("Shelf 12", "Ǻjf", "j"):
             for size in (9, 16, 300):
                 wanted = printed("draw", "--size", str(size), "--fit", "best", "--grow", FONT, text)
-                self.assertEqual(self.font.label(text, size).pbm(), wanted)
+                self.assertEqual(self.font.draw(text, size).pbm(), wanted)
+
+    def test_label(self):
+        for text in ("Shelf 12", "Ǻjf\nj", "", "\n", "A\r\n\nWide\n", "\ufeffA", "e\u0301 A\u030a", "A\ufe0f", "\U0010ffff"):
+            for size in (9, 16, 300):
+                got = self.font.label(text, size)
+                self.assertEqual(got.pbm(), printed("label", "--size", str(size), FONT, text))
+                self.assertEqual(got[1:4], (size, 0, 0))
+        composed = self.font.label("\xe9\n\xe5", 16)
+        self.assertEqual(self.font.label("e\u0301\na\u030a", 16), composed)
+
+    def test_label_options(self):
+        for fit in tt_render.Fit:
+            for align, name in zip(tt_render.Align, ("left", "centre", "right")):
+                for kern in (False, True):
+                    for rounded in (False, True):
+                        words = ["--size", "20", "--margin", "3", "--fit", fit.name.lower(), "--align", name]
+                        words += ["--kern"] * kern + ["--height", "rounded" if rounded else "exact"]
+                        got = self.font.label("AV\nTo Wax", 20, margin=3, fit=fit, align=align, kern=kern, rounded=rounded)
+                        self.assertEqual(got.pbm(), printed("label", *words, FONT, "AV\nTo Wax"))
+
+    def test_label_in_width(self):
+        room = self.font.layout("one two", 16).width
+        lines = pixels(self.font.label("one two\nthree", 16).picture)
+        got = self.font.label("one two three", 16, width=room)
+        self.assertEqual((got.picture.width, got.cut_left, got.cut_right), (room, 0, 0))
+        self.assertEqual(pixels(got.picture), [it[:room].ljust(room, "0") for it in lines])
+        wide = self.font.label("one two\nthree", 16, width=4 * room, margin=2)
+        self.assertEqual(pixels(wide.picture)[2:-2], [("00" + it).ljust(4 * room, "0") for it in lines])
+        whole = pixels(self.font.draw("W", 16))
+        for align, cut in ((tt_render.Align.LEFT, (0, 1)), (tt_render.Align.RIGHT, (1, 0))):
+            got = self.font.label("W", 16, width=5, align=align)
+            self.assertEqual((got.cut_left > 0, got.cut_right > 0), tuple(map(bool, cut)))
+            self.assertEqual(pixels(got.picture), [it[:5] if cut[1] else it[-5:] for it in whole])
+        for width in (9, 40, 384):
+            for text in ("one two-three", "Ǻjf\njolly good", ""):
+                words = ["--size", "16", "--margin", "2", "--width", str(width), "--align", "centre"]
+                got = self.font.label(text, 16, margin=2, width=width, align=tt_render.Align.CENTRE)
+                self.assertEqual(got.pbm(), printed("label", *words, FONT, text))
+
+    def test_label_in_box(self):
+        for text in ("Shelf 12", "quick-brown fox, Ǻjf", "a\nb", "", "e\u0301"):
+            for fit in tt_render.Fit:
+                for align, name in zip(tt_render.Align, ("left", "centre", "right")):
+                    words = ["--size", "60", "--margin", "2", "--fit", fit.name.lower(), "--align", name, "--box", "120x45"]
+                    got = self.font.label(text, 60, margin=2, fit=fit, align=align, box=(120, 45))
+                    self.assertEqual(got.pbm(), printed("label", *words, FONT, text))
+                    self.assertEqual(got[2:4], (0, 0))
+        for most in (300, 20):
+            # A word is one row, at the greatest size at which that row fits.
+            got = self.font.label("Shelf", most, box=(100, 60))
+            self.assertLessEqual(got.size, most)
+            own, other = ink(got.picture), ink(self.font.draw("Shelf", got.size))
+            self.assertEqual((own.right - own.left, own.bottom - own.top), (other.right - other.left, other.bottom - other.top))
+            self.assertEqual(self.font.label("Shelf", got.size, box=(100, 60)), got)
+            if got.size < most:
+                self.assertGreater(self.font.layout("Shelf", got.size + 1).width, 100)
+
+    def test_label_misses(self):
+        self.assertEqual(self.font.label("A\U0010ffff\U0010ffff\n\U0010ffff\U0010fffe", 16).missing, 2)
+        self.assertEqual(self.font.label("A\n\n", 16).missing, 0)
+
+    def test_refused_label(self):
+        for options, number in (({"width": 16385}, 69), ({"width": -1}, 69), ({"width": 6, "margin": 3}, 69),
+                                ({"align": 3}, 72), ({"align": -1, "fit": 4}, 66), ({"margin": 65, "width": 16385}, 64),
+                                ({"box": (0, 0)}, 70), ({"box": (50, 0)}, 70), ({"box": (16385, 50)}, 70),
+                                ({"box": (50, 4097)}, 70), ({"box": (6, 50), "margin": 3}, 70), ({"box": (-1, 9)}, 70),
+                                ({"box": (50, 50), "width": 50}, 70), ({"box": (1, 1)}, 71)):
+            self.assertEqual(self.refused(self.font.label, "A", 16, **options).number, number)
+        self.assertEqual(self.refused(self.font.label, "A" * 4097, 16, width=3).number, 61)
+        self.assertEqual(str(self.refused(self.font.label, "A", 16, width=16385)), "69 WidthRange")
+        self.assertEqual(str(self.refused(self.font.label, "A", 16, align=9)), "72 UnknownAlign")
+        self.assertEqual(str(self.refused(self.font.label, "A", 16, box=(9, 0))), "70 BoxRange")
+        self.assertEqual(str(self.refused(self.font.label, "A" * 99, 16, box=(9, 9))), "71 BoxSmall")
 
     def test_options(self):
         for fit in tt_render.Fit:
             words = ["--size", "20", "--margin", "3", "--fit", fit.name.lower(), FONT, "Hello"]
-            got = self.font.label("Hello", 20, margin=3, fit=fit, grow=False)
+            got = self.font.draw("Hello", 20, margin=3, fit=fit, grow=False)
             self.assertEqual(got.pbm(), printed("draw", *words))
 
     def test_kerning_and_heights(self):
@@ -84,7 +164,7 @@ class Calls(unittest.TestCase):
                     options = {"margin": 1, "fit": fit, "kern": kern, "rounded": rounded}
                     words = ["--size", "24", "--margin", "1", "--fit", fit.name.lower(), *["--kern"] * kern]
                     words += ["--height", "rounded" if rounded else "exact"]
-                    got = self.font.label("AVA To", 24, grow=False, **options)
+                    got = self.font.draw("AVA To", 24, grow=False, **options)
                     self.assertEqual(got.pbm(), printed("draw", *words, FONT, "AVA To"))
                     self.assertEqual(list(self.font.labels(["AVA To"], 24, grow=False, **options)), [got])
                     self.assertEqual(self.font.measure("AVA To", 24, grow=False, **options)[:4], got[:4])
@@ -93,9 +173,9 @@ class Calls(unittest.TestCase):
                     self.assertEqual(pens[-1].pen + pens[-1].advance + 1, got.width)
                     places = self.font.characters("AVA To", 24, grow=False, **options)
                     self.assertEqual([it[1:3] for it in places], [it[3:5] for it in pens])
-        plain, kerned = self.font.label("AVA To", 24), self.font.label("AVA To", 24, kern=True)
+        plain, kerned = self.font.draw("AVA To", 24), self.font.draw("AVA To", 24, kern=True)
         self.assertLess(kerned.width, plain.width)
-        self.assertLessEqual(self.font.label("AVA To", 24, rounded=True).height, plain.height)
+        self.assertLessEqual(self.font.draw("AVA To", 24, rounded=True).height, plain.height)
 
     def test_labels(self):
         for size, count in ((16, 4100), (300, 20)):
@@ -108,13 +188,13 @@ class Calls(unittest.TestCase):
 
     def test_refused_line(self):
         got = self.font.labels(["A", "B", "", "C"], 16)
-        self.assertEqual([next(got), next(got)], [self.font.label("A", 16), self.font.label("B", 16)])
+        self.assertEqual([next(got), next(got)], [self.font.draw("A", 16), self.font.draw("B", 16)])
         error = self.refused(next, got)
         self.assertEqual((error.line, error.number), (2, 62))
 
     def test_blank_line(self):
         got = list(self.font.labels(["A", "", "", "B"], 16, blank=True))
-        self.assertEqual([got[0], got[3]], [self.font.label("A", 16), self.font.label("B", 16)])
+        self.assertEqual([got[0], got[3]], [self.font.draw("A", 16), self.font.draw("B", 16)])
         self.assertEqual(got[1:3], 2 * [tt_render.Picture(0, 0, 0, 0, b"")])
 
     def test_labels_room(self):
@@ -128,13 +208,13 @@ class Calls(unittest.TestCase):
         self.assertEqual((error.number, error.line), (62, 1))
 
     def test_measure(self):
-        got, picture = self.font.measure("jolly", 24), self.font.label("jolly", 24)
+        got, picture = self.font.measure("jolly", 24), self.font.draw("jolly", 24)
         self.assertEqual(got[:4], picture[:4])
         self.assertEqual(got.ink, ink(picture))
         self.assertIsNone(self.font.measure(" ", 24).ink)
 
     def test_characters(self):
-        got, width = self.font.characters("Hi j", 24, grow=False), self.font.label("Hi j", 24, grow=False).width
+        got, width = self.font.characters("Hi j", 24, grow=False), self.font.draw("Hi j", 24, grow=False).width
         self.assertEqual(len(got), 4)
         pens = [sum(it.advance for it in got[:at]) for at in range(5)]
         self.assertEqual([it.pen for it in got] + [width], pens)
@@ -190,7 +270,7 @@ class Calls(unittest.TestCase):
                 got = self.font.glyphs(numbers, size, fit=fit)
                 self.assertEqual([it.glyph for it in got], numbers)
                 self.assertEqual(got[2], got[5])
-                picture = self.font.label("Hij, j", size, fit=fit)
+                picture = self.font.draw("Hij, j", size, fit=fit)
                 self.assertEqual(drawn(got, picture), picture.rows)
 
     def test_refused_glyphs(self):
@@ -213,7 +293,7 @@ class Calls(unittest.TestCase):
                              [(it.glyph, it.advance, it.pen) for it in places])
 
     def test_defect(self):
-        error = self.refused(self.font.label, "2", 16, fit=tt_render.Fit.FULL)
+        error = self.refused(self.font.draw, "2", 16, fit=tt_render.Fit.FULL)
         self.assertEqual((error.status, error.number, error.table), (1, 35, "glyf"))
         self.assertEqual(str(error), f"glyf+{error.offset}: 35 OffProfile")
         error = self.refused(tt_render.Font, b"OTTO")
@@ -221,9 +301,9 @@ class Calls(unittest.TestCase):
 
     def test_request(self):
         for size in (0, 301, -1, 2**32 + 16):
-            error = self.refused(self.font.label, "A", size)
+            error = self.refused(self.font.draw, "A", size)
             self.assertEqual((error.status, error.number, error.table, error.line), (2, 60, "", None))
-        self.assertEqual(self.refused(self.font.label, "\ud800", 16).status, 6)
+        self.assertEqual(self.refused(self.font.draw, "\ud800", 16).status, 6)
 
     def test_processor(self):
         self.assertIs(tt_render.supported(), True)

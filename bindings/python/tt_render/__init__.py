@@ -1,8 +1,8 @@
 """Text from TrueType fonts as black and white pictures, by the C library tt_render.
 
     font = tt_render.Font.open("DejaVuSans.ttf")
-    picture = font.label("Shelf 12", 16)
-    pathlib.Path("label.pbm").write_bytes(picture.pbm())
+    label = font.label("Shelf 12\nleft", 16, align=tt_render.Align.CENTRE)
+    pathlib.Path("label.pbm").write_bytes(label.pbm())
 
 What is refused raises Error. Several threads may call at once. tt_render.h describes each call. Where `supported()` is
 False the processor is too old, and any other call may end the process.
@@ -30,6 +30,12 @@ class Fit(enum.IntEnum):
     FULL, NONE, FALLBACK, BEST = range(4)
 
 
+class Align(enum.IntEnum):
+    """Where the shorter lines of a label stand."""
+
+    LEFT, CENTRE, RIGHT = range(3)
+
+
 class Picture(NamedTuple):
     """Rows of pixels, the highest first. The leftmost pixel is the highest bit of a row's first byte; 1 is black."""
 
@@ -42,6 +48,24 @@ class Picture(NamedTuple):
     def pbm(self) -> bytes:
         """Returns the picture as a file in the format PBM (P4)."""
         return b"P4\n%d %d\n%s" % (self.width, self.height, self.rows)
+
+
+class Label(NamedTuple):
+    """A label: its picture, with the base line of the first row, and how it was drawn.
+
+    `size` is the size that was drawn, in pixels per em. `cut_left` and `cut_right` are columns of ink that were cut, and
+    `missing` counts the distinct characters without a glyph.
+    """
+
+    picture: Picture
+    size: int
+    cut_left: int
+    cut_right: int
+    missing: int
+
+    def pbm(self) -> bytes:
+        """Returns the picture as a file in the format PBM (P4)."""
+        return self.picture.pbm()
 
 
 # The size of a text's picture, and the box of all ink.
@@ -112,8 +136,25 @@ class Font:
         numbers = map(c.number, (size, margin, fit))
         return c.tt_job(*numbers, bool(grow), self._face, bool(kern), bool(rounded), bool(blank))
 
-    def label(self, text: str, size: int, *, margin: int = 0, fit: int = Fit.BEST, grow: bool = True,
-              kern: bool = False, rounded: bool = False) -> Picture:
+    def label(self, text: str, size: int, *, margin: int = 0, fit: int = Fit.BEST, align: int = Align.LEFT,
+              width: int = 0, box: Optional[tuple[int, int]] = None, kern: bool = False, rounded: bool = False) -> Label:
+        """Draws a text of several lines in one picture. The font is read widely.
+
+        No ink is cut, and an empty text is a picture too. Letters and accents are composed where the font can. With a
+        `width` the picture has so many columns: lines are broken into rows, and ink past the sides is cut. With a `box`,
+        its columns and rows, the picture has this size, and the text the greatest size of at most `size` at which it
+        fits: no word is broken then, and no ink is cut.
+        """
+        numbers = [c.number(it) for it in (size, margin, fit)]
+        # A side of 0 is refused, and in C no box.
+        sides = [c.number(it or -1) for it in box or ()]
+        job = c.tt_label_job(*numbers, self._face, bool(kern), bool(rounded), c.number(align), c.number(width), *sides)
+        told = c.tt_label()
+        answer, rows = c.with_rows("tt_label", self._data, c.utf8_of(text), job, told)
+        return c.tuple_of(Label, told, picture=c.tuple_of(Picture, told.picture, rows=rows[: answer.bytes]))
+
+    def draw(self, text: str, size: int, *, margin: int = 0, fit: int = Fit.BEST, grow: bool = True,
+             kern: bool = False, rounded: bool = False) -> Picture:
         """Draws a line of text. With `grow` the picture is enlarged where it would cut ink."""
         told, job = c.tt_picture(), self._job(size, margin, fit, grow, kern, rounded)
         answer, rows = c.with_rows("tt_draw", self._data, c.utf8_of(text), job, told)
@@ -121,7 +162,7 @@ class Font:
 
     def labels(self, texts: Iterable[str], size: int, *, margin: int = 0, fit: int = Fit.BEST, grow: bool = True,
                kern: bool = False, rounded: bool = False, blank: bool = False, keep: int = 1 << 20) -> Iterator[Picture]:
-        """Draws lines, for each what `label` draws, but with the font's programs run once for many of them.
+        """Draws lines, for each what `draw` draws, but with the font's programs run once for many of them.
 
         At most `keep` bytes of glyphs are cached between lines, which then are up to twenty times as fast. A line that
         is refused ends the drawing. With `blank` an empty text is a picture without a pixel.

@@ -23,7 +23,10 @@ def _struct(name: str, **fields: Any) -> Any:
 tt_answer = _struct("tt_answer", status=u32, number=u32, table=c_char * 4, offset=u32, bytes=u64, count=u64)
 tt_font = _struct("tt_font", units_per_em=u32, ascent=i32, descent=i32, glyphs=u32, line_gap=i32)
 tt_job = _struct("tt_job", size=u32, margin=u32, fit=u32, grow=u32, face=u32, kern=u32, rounded=u32, blank=u32)
+tt_label_job = _struct("tt_label_job", size=u32, margin=u32, fit=u32, face=u32, kern=u32, rounded=u32, align=u32,
+                     width=u32, box_width=u32, box_height=u32)
 tt_picture = _struct("tt_picture", width=u32, height=u32, row_bytes=u64, baseline=i64, unfitted=u64)
+tt_label = _struct("tt_label", picture=tt_picture, size=u64, cut_left=u64, cut_right=u64, missing=u64)
 tt_box = _struct("tt_box", left=i64, top=i64, right=i64, bottom=i64)
 tt_measure = _struct("tt_measure", width=u32, height=u32, baseline=i64, unfitted=u64, has_ink=u64, ink=tt_box)
 tt_character = _struct("tt_character", glyph=u32, advance=u32, pen=i64, has_ink=u64, ink=tt_box, offset=u64)

@@ -41,6 +41,20 @@ pub struct Job {
     pub blank: u32,
 }
 
+#[repr(C)]
+pub struct LabelJob {
+    pub size: u32,
+    pub margin: u32,
+    pub fit: u32,
+    pub face: u32,
+    pub kern: u32,
+    pub rounded: u32,
+    pub align: u32,
+    pub width: u32,
+    pub box_width: u32,
+    pub box_height: u32,
+}
+
 /// A picture without its pixels.
 #[repr(C)]
 #[derive(Clone, Copy, Debug, Default, PartialEq, Eq)]
@@ -56,6 +70,16 @@ pub struct Shape {
     pub baseline: i64,
     /// The distinct glyphs drawn unfitted although the job requests fitting.
     pub unfitted: u64,
+}
+
+#[repr(C)]
+#[derive(Clone, Copy, Default)]
+pub struct Label {
+    pub picture: Shape,
+    pub size: u64,
+    pub cut_left: u64,
+    pub cut_right: u64,
+    pub missing: u64,
 }
 
 /// A box of pixels; all four sides are included.
@@ -281,6 +305,17 @@ extern "C" {
         rows: *mut u8,
         room: usize,
         told: *mut Shape,
+        answer: *mut Answer,
+    ) -> u32;
+    pub fn tt_label(
+        font: *const u8,
+        font_bytes: usize,
+        text: *const u8,
+        text_bytes: usize,
+        job: *const LabelJob,
+        rows: *mut u8,
+        room: usize,
+        told: *mut Label,
         answer: *mut Answer,
     ) -> u32;
     pub fn tt_draw_lines(

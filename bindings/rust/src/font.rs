@@ -1,7 +1,7 @@
 //! The calls of the library, as functions over slices.
 use crate::c::{self, Answer, Bitmap, Figures, Glyph, Layout, Line, Pen, Shape};
 use crate::error::{done, Error, ROOM};
-use crate::picture::{Bitmaps, Character, Job, Measure, Picture, Strike};
+use crate::picture::{Bitmaps, Character, Job, Label, LabelJob, Measure, Picture, Strike};
 
 /// The room of a first call that draws a text.
 const FIRST_ROOM: usize = 1 << 16;
@@ -74,9 +74,50 @@ impl<'a> Font<'a> {
         self.figures
     }
 
-    /// Draws a label: `draw` with `Job::of_size`.
-    pub fn label(&self, text: &str, size: u32) -> Result<Picture, Error> {
-        self.draw(text, &Job::of_size(size))
+    /// Draws a label: `draw_label` with `LabelJob::of_size`.
+    pub fn label(&self, text: &str, size: u32) -> Result<Label, Error> {
+        self.draw_label(text, &LabelJob::of_size(size))
+    }
+
+    /// Draws a label: a text of several lines in one picture. The font is read widely. An empty text is a picture too.
+    /// Letters and accents are composed where the font can.
+    pub fn draw_label(&self, text: &str, job: &LabelJob) -> Result<Label, Error> {
+        let mut rows = vec![0; FIRST_ROOM];
+        loop {
+            match self.label_into(text, job, &mut rows) {
+                Ok((told, bytes)) => {
+                    rows.truncate(bytes);
+                    return Ok(Label::of(told, rows));
+                }
+                Err(error) => match error.wanted() {
+                    Some(wanted) => rows = vec![0; wanted as usize],
+                    None => return Err(error),
+                },
+            }
+        }
+    }
+
+    fn label_into(
+        &self,
+        text: &str,
+        job: &LabelJob,
+        rows: &mut [u8],
+    ) -> Result<(c::Label, usize), Error> {
+        let (mut told, mut answer) = (c::Label::default(), Answer::default());
+        unsafe {
+            c::tt_label(
+                self.bytes.as_ptr(),
+                self.bytes.len(),
+                text.as_ptr(),
+                text.len(),
+                &job.of_face(self.face),
+                rows.as_mut_ptr(),
+                rows.len(),
+                &mut told,
+                &mut answer,
+            )
+        };
+        Ok((told, done(answer)?.bytes as usize))
     }
 
     /// Draws a line of text.

@@ -3,15 +3,15 @@
 //! ```no_run
 //! let bytes = std::fs::read("DejaVuSans.ttf").unwrap();
 //! let font = tt_render::Font::new(&bytes)?;
-//! let picture = font.label("Shelf 12", 16)?;
-//! std::fs::write("label.pbm", picture.pbm()).unwrap();
+//! let label = font.label("Shelf 12\nleft", 16)?;
+//! std::fs::write("label.pbm", label.picture.pbm()).unwrap();
 //! # Ok::<(), tt_render::Error>(())
 //! ```
 //!
 //! The library has no state: a `Font` is the caller's bytes and a number. tt_render.h describes each call.
 //!
-//! Types that are `#[non_exhaustive]` may get further fields or members. A request is made by `Job::of_size`, and then
-//! changed field by field.
+//! Types that are `#[non_exhaustive]` may get further fields or members. A request is made by `Job::of_size` or
+//! `LabelJob::of_size`, and then changed field by field.
 #![warn(missing_docs)]
 
 mod c;
@@ -22,4 +22,6 @@ mod picture;
 pub use c::{Bitmap, Figures, Glyph, Layout, Pen, PixelBox, Shape};
 pub use error::Error;
 pub use font::{faces, supported, Font};
-pub use picture::{Bitmaps, Character, Fit, Job, Measure, Picture, Strike, Underline};
+pub use picture::{
+    Align, Bitmaps, Character, Fit, Job, Label, LabelJob, Measure, Picture, Strike, Underline,
+};

@@ -16,6 +16,19 @@ pub enum Fit {
     Best = 3,
 }
 
+/// Where the shorter lines of a label stand.
+#[derive(Clone, Copy, Debug, Default, PartialEq, Eq)]
+#[non_exhaustive]
+pub enum Align {
+    /// At the left.
+    #[default]
+    Left = 0,
+    /// In the middle.
+    Centre = 1,
+    /// At the right.
+    Right = 2,
+}
+
 /// A request to draw a text.
 #[derive(Clone, Copy, Debug, PartialEq, Eq)]
 #[non_exhaustive]
@@ -38,7 +51,7 @@ pub struct Job {
 }
 
 impl Job {
-    /// A request for a label: fitted with `Fit::Best`, and grown.
+    /// A request that is fitted with `Fit::Best`, and grown.
     pub fn of_size(size: u32) -> Job {
         Job {
             size,
@@ -74,6 +87,77 @@ impl Job {
     }
 }
 
+/// A request to draw a label.
+#[derive(Clone, Copy, Debug, PartialEq, Eq)]
+#[non_exhaustive]
+pub struct LabelJob {
+    /// Pixels per em, 1 to 300.
+    pub size: u32,
+    /// Pixels round the lines, 0 to 64.
+    pub margin: u32,
+    /// The way to fit.
+    pub fit: Fit,
+    /// Whether pairs of characters such as AV are moved nearer, by the font's tables.
+    pub kern: bool,
+    /// Whether ascent and descent are each rounded to the nearest row, and not up.
+    pub rounded: bool,
+    /// Where the shorter lines stand.
+    pub align: Align,
+    /// The columns of the picture, whose lines are then broken into rows, and whose ink past the sides is cut; or 0 for
+    /// a picture as large as its lines and their ink.
+    pub width: u32,
+    /// The columns and the rows of the picture, which then has the text at the greatest size of at most `size` at which
+    /// the text fits: no word is broken, and no ink is cut.
+    pub box_size: Option<(u32, u32)>,
+}
+
+impl LabelJob {
+    /// A request that is fitted with `Fit::Best`, as large as its lines.
+    pub fn of_size(size: u32) -> LabelJob {
+        LabelJob {
+            size,
+            margin: 0,
+            fit: Fit::Best,
+            kern: false,
+            rounded: false,
+            align: Align::Left,
+            width: 0,
+            box_size: None,
+        }
+    }
+
+    pub(crate) fn of_face(&self, face: u32) -> c::LabelJob {
+        let LabelJob {
+            size,
+            margin,
+            fit,
+            kern,
+            rounded,
+            align,
+            width,
+            box_size,
+        } = *self;
+        // In C two sides of 0 are no box. As a box they are refused.
+        let (box_width, box_height) = match box_size {
+            None => (0, 0),
+            Some((0, 0)) => (0, u32::MAX),
+            Some(sides) => sides,
+        };
+        c::LabelJob {
+            size,
+            margin,
+            fit: fit as u32,
+            face,
+            kern: kern.into(),
+            rounded: rounded.into(),
+            align: align as u32,
+            width,
+            box_width,
+            box_height,
+        }
+    }
+}
+
 /// A picture.
 #[derive(Clone, Debug, PartialEq, Eq)]
 pub struct Picture {
@@ -100,6 +184,41 @@ impl Picture {
         let mut file = format!("P4\n{} {}\n", self.shape.width, self.shape.height).into_bytes();
         file.extend_from_slice(&self.rows);
         file
+    }
+}
+
+/// A label.
+#[derive(Clone, Debug, PartialEq, Eq)]
+#[non_exhaustive]
+pub struct Label {
+    /// Its picture, with the base line of the first row.
+    pub picture: Picture,
+    /// The size that was drawn, in pixels per em.
+    pub size: u64,
+    /// The columns of ink that were cut at the left.
+    pub cut_left: u64,
+    /// The columns of ink that were cut at the right.
+    pub cut_right: u64,
+    /// The distinct characters without a glyph.
+    pub missing: u64,
+}
+
+impl Label {
+    pub(crate) fn of(told: c::Label, rows: Vec<u8>) -> Label {
+        let c::Label {
+            picture: shape,
+            size,
+            cut_left,
+            cut_right,
+            missing,
+        } = told;
+        Label {
+            picture: Picture { shape, rows },
+            size,
+            cut_left,
+            cut_right,
+            missing,
+        }
     }
 }
 

@@ -2,7 +2,7 @@
 use std::env;
 use std::io::Write;
 use std::process::{Command, Stdio};
-use tt_render::{faces, supported, Error, Fit, Font, Job};
+use tt_render::{faces, supported, Align, Error, Fit, Font, Job, LabelJob};
 
 fn font_path() -> String {
     env::var("TT_FONT").expect("TT_FONT names a font")
@@ -49,7 +49,7 @@ fn collection(font: &[u8]) -> Vec<u8> {
 }
 
 #[test]
-fn labels_are_those_of_the_program() {
+fn lines_of_text_are_those_of_the_program() {
     let (path, bytes) = (font_path(), font_bytes());
     let font = Font::new(&bytes).unwrap();
     for text in ["Shelf 12", "Ǻjf", "j"] {
@@ -60,12 +60,136 @@ fn labels_are_those_of_the_program() {
                 ],
                 "",
             );
-            assert_eq!(
-                font.label(text, size.parse().unwrap()).unwrap().pbm(),
-                wanted
-            );
+            let job = Job::of_size(size.parse().unwrap());
+            assert_eq!(font.draw(text, &job).unwrap().pbm(), wanted);
         }
     }
+}
+
+#[test]
+fn labels_are_those_of_the_program() {
+    let (path, bytes) = (font_path(), font_bytes());
+    let font = Font::new(&bytes).unwrap();
+    for text in [
+        "Shelf 12",
+        "Ǻjf\nj",
+        "",
+        "A\r\n\nWide\n",
+        "e\u{301} A\u{30a}",
+    ] {
+        for size in ["9", "16", "300"] {
+            let label = font.label(text, size.parse().unwrap()).unwrap();
+            let wanted = printed(&["label", "--size", size, &path, text], "");
+            assert_eq!(label.picture.pbm(), wanted);
+            assert_eq!((label.cut_left, label.cut_right), (0, 0));
+            assert_eq!(label.size.to_string(), size);
+        }
+    }
+    for (align, name) in [
+        (Align::Left, "left"),
+        (Align::Centre, "centre"),
+        (Align::Right, "right"),
+    ] {
+        let mut job = LabelJob::of_size(20);
+        job.margin = 3;
+        job.fit = Fit::None;
+        job.kern = true;
+        job.rounded = true;
+        job.align = align;
+        let words = [
+            "label",
+            "--size",
+            "20",
+            "--margin",
+            "3",
+            "--fit",
+            "none",
+            "--kern",
+            "--height",
+            "rounded",
+            "--align",
+            name,
+            &path,
+            "AV\nTo Wax",
+        ];
+        let label = font.draw_label("AV\nTo Wax", &job).unwrap();
+        assert_eq!(label.picture.pbm(), printed(&words, ""));
+    }
+    assert_eq!(
+        font.label("A\u{10ffff}\n\u{10ffff}", 16).unwrap().missing,
+        1
+    );
+}
+
+#[test]
+fn labels_have_a_width() {
+    let bytes = font_bytes();
+    let font = Font::new(&bytes).unwrap();
+    let room = font.layout("one two", &Job::of_size(16)).unwrap().width;
+    let mut job = LabelJob::of_size(16);
+    job.width = room;
+    let (got, lines) = (
+        font.draw_label("one two three", &job).unwrap().picture,
+        font.label("one two\nthree", 16).unwrap().picture,
+    );
+    assert_eq!(
+        (got.shape.width, got.shape.height),
+        (room, lines.shape.height)
+    );
+    for row in 0..got.shape.height {
+        assert!((0..room).all(|it| got.is_black(it, row) == lines.is_black(it, row)));
+    }
+    job.width = 5;
+    let cut = font.draw_label("W", &job).unwrap();
+    assert!(cut.cut_left == 0 && cut.cut_right > 0);
+    job.align = Align::Right;
+    let cut = font.draw_label("W", &job).unwrap();
+    assert!(cut.cut_left > 0 && cut.cut_right == 0);
+    job.margin = 3;
+    let refused = font.draw_label("W", &job).unwrap_err();
+    assert_eq!((refused.status(), refused.number()), (2, 69));
+    job.width = 40;
+    let words = [
+        "label", "--size", "16", "--margin", "3", "--width", "40", "--align", "right",
+    ];
+    let path = font_path();
+    let words = [&words[..], &[path.as_str(), "one two-three"]].concat();
+    let picture = font.draw_label("one two-three", &job).unwrap().picture;
+    assert_eq!(picture.pbm(), printed(&words, ""));
+}
+
+#[test]
+fn labels_fill_a_box() {
+    let (path, bytes) = (font_path(), font_bytes());
+    let font = Font::new(&bytes).unwrap();
+    let mut job = LabelJob::of_size(300);
+    job.margin = 2;
+    job.align = Align::Centre;
+    job.box_size = Some((120, 45));
+    for text in ["Shelf 12", "quick-brown fox, Ǻjf", "a\nb", ""] {
+        let words = [
+            "label", "--margin", "2", "--align", "centre", "--box", "120x45", &path, text,
+        ];
+        let label = font.draw_label(text, &job).unwrap();
+        assert_eq!(label.picture.pbm(), printed(&words, ""));
+        assert_eq!((label.cut_left, label.cut_right), (0, 0));
+        job.size = label.size as u32;
+        assert_eq!(font.draw_label(text, &job).unwrap(), label);
+        job.size = 300;
+    }
+    for (sides, number) in [
+        ((0, 0), 70),
+        ((50, 0), 70),
+        ((16385, 50), 70),
+        ((50, 4), 70),
+        ((5, 5), 71),
+    ] {
+        job.box_size = Some(sides);
+        assert_eq!(font.draw_label("W", &job).unwrap_err().number(), number);
+    }
+    job.box_size = Some((50, 50));
+    job.width = 50;
+    assert_eq!(font.draw_label("W", &job).unwrap_err().number(), 70);
 }
 
 #[test]
@@ -213,7 +337,7 @@ fn a_measure_is_that_of_the_picture() {
     let bytes = font_bytes();
     let font = Font::new(&bytes).unwrap();
     let (picture, got) = (
-        font.label("jolly", 24).unwrap(),
+        font.draw("jolly", &Job::of_size(24)).unwrap(),
         font.measure("jolly", &Job::of_size(24)).unwrap(),
     );
     assert_eq!((got.width, got.height, got.baseline), {
@@ -261,7 +385,7 @@ fn characters_follow_each_other() {
 fn a_room_that_is_too_small_is_refused() {
     let bytes = font_bytes();
     let font = Font::new(&bytes).unwrap();
-    let picture = font.label("A", 16).unwrap();
+    let picture = font.draw("A", &Job::of_size(16)).unwrap();
     let mut room = vec![7; picture.rows.len() + 1];
     let end = room.len() - 2;
     let refused = font
@@ -354,7 +478,7 @@ fn a_request_has_no_table() {
     let bytes = font_bytes();
     let font = Font::new(&bytes).unwrap();
     for size in [0, 301, u32::MAX] {
-        let refused = font.label("A", size).unwrap_err();
+        let refused = font.draw("A", &Job::of_size(size)).unwrap_err();
         assert_eq!(
             (
                 refused.status(),

@@ -14,12 +14,14 @@ ghost use Rattle.tt_c_calls.specs.Measures.{MeasuresText, PlacesCharacters};
 ghost use Rattle.tt_c_calls.specs.Messages.{WritesMessage};
 ghost use Rattle.tt_c_calls.specs.Pictures.{DrawsBand};
 ghost use Rattle.tt_c_calls.specs.Strikes.{TellsStrike};
+ghost use Rattle.tt_c_labels.specs.Labels.{DrawsLabel};
 
 use std::alloc::Global;
 use tt_c_calls::{
     Band, CAnswer, CBitmap, CCharacter, CFont, CGlyph, CJob, CLayout, CLine, CMeasure, CPen,
     CPicture, CStrike, TextRequest, Texts,
 };
+use tt_c_labels::{CLabel, CLabelJob, LabelRequest};
 
 /// The version of the library, as `TT_RENDER_VERSION` of the header: 10,000 times its first part, 100 times the second,
 /// and the third.
@@ -238,6 +240,25 @@ pub extern "C" fn tt_draw_band(
     let band = Band { first, count };
     let request = TextRequest { font, text, job };
     *answer = tt_c_calls::draw_band(alloc, &request, band, rows, told);
+    answer.status
+}
+
+/// `tt_c_labels::label`.
+#[unsafe(no_mangle)]
+pub extern "C" fn tt_label(
+    alloc: Global,
+    font: &[u8],
+    text: &[u8],
+    job: &CLabelJob,
+    rows: &mut [u8],
+    told: &mut CLabel,
+    answer: &mut CAnswer,
+) -> u32
+    ensures status { result ≡ answer.new.status }
+    ensures draws { DrawsLabel job.now text.now font.now rows.old rows.new told.old told.new answer.new }
+{
+    let request = LabelRequest { font, text, job };
+    *answer = tt_c_labels::label(alloc, &request, rows, told);
     answer.status
 }
 

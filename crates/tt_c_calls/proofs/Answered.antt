@@ -33,6 +33,10 @@ tells wanted (call.Job j) is = rw is (inl refl)
 tells wanted call.FontLarge is = rw is (inl refl)
 tells wanted call.UnknownFit is = rw is (inl refl)
 tells wanted call.LineEnds is = rw is (inl refl)
+tells wanted call.UnknownAlign is = rw is (inl refl)
+tells wanted call.WidthRange is = rw is (inl refl)
+tells wanted call.BoxRange is = rw is (inl refl)
+tells wanted call.BoxSmall is = rw is (inl refl)
 tells wanted call.NotUtf8 is = rw is (inl refl)
 tells wanted call.Memory is = tells_memory wanted
 
@@ -43,6 +47,10 @@ stands P (call.Job j) is = λ h. absurd (omega (arith, h))
 stands P call.FontLarge is = λ h. absurd (omega (arith, h))
 stands P call.UnknownFit is = λ h. absurd (omega (arith, h))
 stands P call.LineEnds is = λ h. absurd (omega (arith, h))
+stands P call.UnknownAlign is = λ h. absurd (omega (arith, h))
+stands P call.WidthRange is = λ h. absurd (omega (arith, h))
+stands P call.BoxRange is = λ h. absurd (omega (arith, h))
+stands P call.BoxSmall is = λ h. absurd (omega (arith, h))
 stands P call.NotUtf8 is = λ h. absurd (omega (arith, h))
 stands P call.Memory is = λ h. absurd (omega (arith, h))
 
@@ -53,6 +61,10 @@ serves (call.Job j) other = λ h. omega (arith, h)
 serves call.FontLarge other = λ h. omega (arith, h)
 serves call.UnknownFit other = λ h. omega (arith, h)
 serves call.LineEnds other = λ h. omega (arith, h)
+serves call.UnknownAlign other = λ h. omega (arith, h)
+serves call.WidthRange other = λ h. omega (arith, h)
+serves call.BoxRange other = λ h. omega (arith, h)
+serves call.BoxSmall other = λ h. omega (arith, h)
 serves call.NotUtf8 other = λ h. omega (arith, h)
 serves call.Memory other = λ h. other refl
 
@@ -63,6 +75,10 @@ fails (call.Job j) = λ h. omega (arith, h)
 fails call.FontLarge = λ h. omega (arith, h)
 fails call.UnknownFit = λ h. omega (arith, h)
 fails call.LineEnds = λ h. omega (arith, h)
+fails call.UnknownAlign = λ h. omega (arith, h)
+fails call.WidthRange = λ h. omega (arith, h)
+fails call.BoxRange = λ h. omega (arith, h)
+fails call.BoxSmall = λ h. omega (arith, h)
 fails call.NotUtf8 = λ h. omega (arith, h)
 fails call.Memory = λ h. omega (arith, h)
 
@@ -73,6 +89,10 @@ wants_none (call.Job j) = λ h. omega (arith, h)
 wants_none call.FontLarge = λ h. omega (arith, h)
 wants_none call.UnknownFit = λ h. omega (arith, h)
 wants_none call.LineEnds = λ h. omega (arith, h)
+wants_none call.UnknownAlign = λ h. omega (arith, h)
+wants_none call.WidthRange = λ h. omega (arith, h)
+wants_none call.BoxRange = λ h. omega (arith, h)
+wants_none call.BoxSmall = λ h. omega (arith, h)
 wants_none call.NotUtf8 = λ h. omega (arith, h)
 wants_none call.Memory = λ h. omega (arith, h)
 
@@ -83,6 +103,10 @@ writes_none (call.Job j) = refl
 writes_none call.FontLarge = refl
 writes_none call.UnknownFit = refl
 writes_none call.LineEnds = refl
+writes_none call.UnknownAlign = refl
+writes_none call.WidthRange = refl
+writes_none call.BoxRange = refl
+writes_none call.BoxSmall = refl
 writes_none call.NotUtf8 = refl
 writes_none call.Memory = refl
 
@@ -95,6 +119,10 @@ first_stops wanted f (call.Job j) is = rw is refl
 first_stops wanted f call.FontLarge is = rw is refl
 first_stops wanted f call.UnknownFit is = rw is refl
 first_stops wanted f call.LineEnds is = rw is refl
+first_stops wanted f call.UnknownAlign is = rw is refl
+first_stops wanted f call.WidthRange is = rw is refl
+first_stops wanted f call.BoxRange is = rw is refl
+first_stops wanted f call.BoxSmall is = rw is refl
 first_stops wanted f call.NotUtf8 is = rw is refl
 first_stops wanted f call.Memory is = tt
 

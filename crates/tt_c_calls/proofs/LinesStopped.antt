@@ -25,7 +25,7 @@ use Rattle.tt_c_calls.specs.declared.line_drawing.CLine.{CLine}
 use Rattle.tt_c_calls.specs.Answers.{call_answer, room_answer}
 use Rattle.tt_c_calls.specs.Asked.{fit_asked, job_opening}
 use Rattle.tt_c_calls.specs.Lines.{AnswersInOrder, DrawsLines, EndsWith, IsStrikeFor, LineDefectStands, lines_wanted}
-use Rattle.tt_c_calls.specs.Refusals.{Refusal, as_call, call_font_fault, call_of_draw, call_refusal, line_ends, not_utf8, refused, unknown_fit}
+use Rattle.tt_c_calls.specs.Refusals.{Refusal, as_call, box_range, box_small, call_font_fault, call_of_draw, call_refusal, line_ends, not_utf8, refused, unknown_align, unknown_fit, width_range}
 use Rattle.tt_c_calls.proofs.Answered.{by_opening}
 use Rattle.tt_c_calls.proofs.AskedTables.{face_opened, no_fit}
 use Rattle.tt_c_calls.proofs.StrikeLines.{if_some_more, not_done}
@@ -62,6 +62,14 @@ lines_refused j file texts ends room told call.UnknownFit h =
     (0, none_drawn j file texts ends room told, inr (not_done call.UnknownFit, inl (unknown_fit, h, refl)))
 lines_refused j file texts ends room told call.LineEnds h =
     (0, none_drawn j file texts ends room told, inr (not_done call.LineEnds, inl (line_ends, h, refl)))
+lines_refused j file texts ends room told call.UnknownAlign h =
+    (0, none_drawn j file texts ends room told, inr (not_done call.UnknownAlign, inl (unknown_align, h, refl)))
+lines_refused j file texts ends room told call.WidthRange h =
+    (0, none_drawn j file texts ends room told, inr (not_done call.WidthRange, inl (width_range, h, refl)))
+lines_refused j file texts ends room told call.BoxRange h =
+    (0, none_drawn j file texts ends room told, inr (not_done call.BoxRange, inl (box_range, h, refl)))
+lines_refused j file texts ends room told call.BoxSmall h =
+    (0, none_drawn j file texts ends room told, inr (not_done call.BoxSmall, inl (box_small, h, refl)))
 lines_refused j file texts ends room told call.NotUtf8 h =
     (0, none_drawn j file texts ends room told, inr (not_done call.NotUtf8, inl (not_utf8, h, refl)))
 lines_refused j file texts ends room told call.Memory h =
@@ -75,6 +83,10 @@ refused_first wanted room lines (call.Job why) other h = rw h refl
 refused_first wanted room lines call.FontLarge other h = rw h refl
 refused_first wanted room lines call.UnknownFit other h = rw h refl
 refused_first wanted room lines call.LineEnds other h = rw h refl
+refused_first wanted room lines call.UnknownAlign other h = rw h refl
+refused_first wanted room lines call.WidthRange other h = rw h refl
+refused_first wanted room lines call.BoxRange other h = rw h refl
+refused_first wanted room lines call.BoxSmall other h = rw h refl
 refused_first wanted room lines call.NotUtf8 other h = rw h refl
 refused_first wanted room lines call.Memory other h = absurd (other refl)
 
@@ -105,6 +117,10 @@ fit_defect n IsOne (call.Job j) is = tt
 fit_defect n IsOne call.FontLarge is = tt
 fit_defect n IsOne call.UnknownFit is = tt
 fit_defect n IsOne call.LineEnds is = tt
+fit_defect n IsOne call.UnknownAlign is = tt
+fit_defect n IsOne call.WidthRange is = tt
+fit_defect n IsOne call.BoxRange is = tt
+fit_defect n IsOne call.BoxSmall is = tt
 fit_defect n IsOne call.NotUtf8 is = tt
 fit_defect n IsOne call.Memory is = tt
 
@@ -116,6 +132,10 @@ lines_defect_told IsOne (call.Job j) stands is = absurd (omega arith)
 lines_defect_told IsOne call.FontLarge stands is = absurd (omega arith)
 lines_defect_told IsOne call.UnknownFit stands is = absurd (omega arith)
 lines_defect_told IsOne call.LineEnds stands is = absurd (omega arith)
+lines_defect_told IsOne call.UnknownAlign stands is = absurd (omega arith)
+lines_defect_told IsOne call.WidthRange stands is = absurd (omega arith)
+lines_defect_told IsOne call.BoxRange stands is = absurd (omega arith)
+lines_defect_told IsOne call.BoxSmall stands is = absurd (omega arith)
 lines_defect_told IsOne call.NotUtf8 stands is = absurd (omega arith)
 lines_defect_told IsOne call.Memory stands is = absurd (omega arith)
 

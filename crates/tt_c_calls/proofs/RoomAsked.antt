@@ -14,7 +14,7 @@ use Rattle.tt_c_calls.specs.Answers.{call_answer, done_answer, refusal_answer}
 use Rattle.tt_c_calls.specs.Asked.{IsAskedDefect}
 use Rattle.tt_c_calls.specs.LineRooms.{CountsRoom, EndsRoom, IsLineAccepted, IsLineRefused, TellsRoom, first_room, line_at, line_room, lines_room, most_bytes}
 use Rattle.tt_c_calls.specs.Lines.{IsLinesDefect, LineDefectStands, cost_taken, first_taken, line_between, line_taken, lines_by, lines_wanted, start_of, stopped_answer}
-use Rattle.tt_c_calls.specs.Refusals.{call_font_fault, call_refusal, line_ends, not_utf8, refused, unknown_fit}
+use Rattle.tt_c_calls.specs.Refusals.{box_range, box_small, call_font_fault, call_refusal, line_ends, not_utf8, refused, unknown_align, unknown_fit, width_range}
 use Rattle.tt_c_calls.proofs.Answered.{writes_none}
 use Rattle.tt_c_calls.proofs.LinesDrawn.{first_taken_too, lines_behind, start_behind}
 use Rattle.tt_c_calls.proofs.LinesStopped.{lines_defect_told}
@@ -94,6 +94,10 @@ ends_at j file texts ends used i (call.Job why) few is = inr (inr (inr (refused 
 ends_at j file texts ends used i call.FontLarge few is = inr (inr (inr (refused large, few, is, refl)))
 ends_at j file texts ends used i call.UnknownFit few is = inr (inr (inr (unknown_fit, few, is, refl)))
 ends_at j file texts ends used i call.LineEnds few is = inr (inr (inr (line_ends, few, is, refl)))
+ends_at j file texts ends used i call.UnknownAlign few is = inr (inr (inr (unknown_align, few, is, refl)))
+ends_at j file texts ends used i call.WidthRange few is = inr (inr (inr (width_range, few, is, refl)))
+ends_at j file texts ends used i call.BoxRange few is = inr (inr (inr (box_range, few, is, refl)))
+ends_at j file texts ends used i call.BoxSmall few is = inr (inr (inr (box_small, few, is, refl)))
 ends_at j file texts ends used i call.NotUtf8 few is = inr (inr (inr (not_utf8, few, is, refl)))
 ends_at j file texts ends used i call.Memory few is = inr (inr (inl refl))
 
@@ -104,6 +108,10 @@ stands_at IsOne used i (call.Job j) stands is = absurd (omega (arith, is))
 stands_at IsOne used i call.FontLarge stands is = absurd (omega (arith, is))
 stands_at IsOne used i call.UnknownFit stands is = absurd (omega (arith, is))
 stands_at IsOne used i call.LineEnds stands is = absurd (omega (arith, is))
+stands_at IsOne used i call.UnknownAlign stands is = absurd (omega (arith, is))
+stands_at IsOne used i call.WidthRange stands is = absurd (omega (arith, is))
+stands_at IsOne used i call.BoxRange stands is = absurd (omega (arith, is))
+stands_at IsOne used i call.BoxSmall stands is = absurd (omega (arith, is))
 stands_at IsOne used i call.NotUtf8 stands is = absurd (omega (arith, is))
 stands_at IsOne used i call.Memory stands is = absurd (omega (arith, is))
 
@@ -144,6 +152,14 @@ refused_itself j file texts ends from i call.UnknownFit start order small enough
     inr (inr ((rw start at order, small), enough, rw start at is))
 refused_itself j file texts ends from i call.LineEnds start order small enough is =
     inr (inr ((rw start at order, small), enough, rw start at is))
+refused_itself j file texts ends from i call.UnknownAlign start order small enough is =
+    inr (inr ((rw start at order, small), enough, rw start at is))
+refused_itself j file texts ends from i call.WidthRange start order small enough is =
+    inr (inr ((rw start at order, small), enough, rw start at is))
+refused_itself j file texts ends from i call.BoxRange start order small enough is =
+    inr (inr ((rw start at order, small), enough, rw start at is))
+refused_itself j file texts ends from i call.BoxSmall start order small enough is =
+    inr (inr ((rw start at order, small), enough, rw start at is))
 refused_itself j file texts ends from i call.NotUtf8 start order small enough is =
     inr (inr ((rw start at order, small), enough, rw start at is))
 refused_itself j file texts ends from i call.Memory start order small enough is = tt
@@ -157,6 +173,10 @@ line_told j file texts ends from i (call.Job why) start stands = tt
 line_told j file texts ends from i call.FontLarge start stands = tt
 line_told j file texts ends from i call.UnknownFit start stands = tt
 line_told j file texts ends from i call.LineEnds start stands = tt
+line_told j file texts ends from i call.UnknownAlign start stands = tt
+line_told j file texts ends from i call.WidthRange start stands = tt
+line_told j file texts ends from i call.BoxRange start stands = tt
+line_told j file texts ends from i call.BoxSmall start stands = tt
 line_told j file texts ends from i call.NotUtf8 start stands = tt
 line_told j file texts ends from i call.Memory start stands = tt
 
@@ -180,6 +200,10 @@ refused_early j file texts ends (call.Job why) is = inr (inl (refused (job why),
 refused_early j file texts ends call.FontLarge is = inr (inl (refused large, is, refl))
 refused_early j file texts ends call.UnknownFit is = inr (inl (unknown_fit, is, refl))
 refused_early j file texts ends call.LineEnds is = inr (inl (line_ends, is, refl))
+refused_early j file texts ends call.UnknownAlign is = inr (inl (unknown_align, is, refl))
+refused_early j file texts ends call.WidthRange is = inr (inl (width_range, is, refl))
+refused_early j file texts ends call.BoxRange is = inr (inl (box_range, is, refl))
+refused_early j file texts ends call.BoxSmall is = inr (inl (box_small, is, refl))
 refused_early j file texts ends call.NotUtf8 is = inr (inl (not_utf8, is, refl))
 refused_early j file texts ends call.Memory is = inr (inr (inl refl))
 
@@ -189,6 +213,10 @@ counts_none (call.Job j) = refl
 counts_none call.FontLarge = refl
 counts_none call.UnknownFit = refl
 counts_none call.LineEnds = refl
+counts_none call.UnknownAlign = refl
+counts_none call.WidthRange = refl
+counts_none call.BoxRange = refl
+counts_none call.BoxSmall = refl
 counts_none call.NotUtf8 = refl
 counts_none call.Memory = refl
 

@@ -148,7 +148,11 @@ job_short a =
     either (a.number == 66) _ _ 89 (by_test (codes "tt_render: 66 UnknownFit") 89 refl)
     (either (a.number == 67) _ _ 89 (by_test (codes "tt_render: 67 LineEnds") 89 refl)
     (either (a.number == 68) _ _ 89 (by_test (codes "tt_render: 68 GlyphNumber") 89 refl)
-    (refusal_short (job_fault_of a.number))))
+    (either (a.number == 69) _ _ 89 (by_test (codes "tt_render: 69 WidthRange") 89 refl)
+    (either (a.number == 70) _ _ 89 (by_test (codes "tt_render: 70 BoxRange") 89 refl)
+    (either (a.number == 71) _ _ 89 (by_test (codes "tt_render: 71 BoxSmall") 89 refl)
+    (either (a.number == 72) _ _ 89 (by_test (codes "tt_render: 72 UnknownAlign") 89 refl)
+    (refusal_short (job_fault_of a.number))))))))
 
 room_short : (a : CAnswer) → AnswerFits a → length (room_message a) ≤ 89
 room_short a fits =

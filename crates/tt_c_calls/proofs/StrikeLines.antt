@@ -29,7 +29,7 @@ use Rattle.tt_c_calls.specs.Asked.{IsAskedDefect, asked, grows, job_opening, tex
 use Rattle.tt_c_calls.specs.Lines.{IsLineWritten, IsStrikeFor, IsTextStopped, is_blank, lines_wanted}
 use Rattle.tt_c_calls.specs.Pictures.{IsBandSmall, IsBandWritten, IsPictureOf, band_of, band_rows, picture_wanted}
 use Rattle.tt_render_settings.specs.Products.{IsMadeBy, picture_by}
-use Rattle.tt_c_calls.specs.Refusals.{Refusal, as_call, call_font_fault, call_refusal, line_ends, not_utf8, refused, unknown_fit}
+use Rattle.tt_c_calls.specs.Refusals.{Refusal, as_call, box_range, box_small, call_font_fault, call_refusal, line_ends, not_utf8, refused, unknown_align, unknown_fit, width_range}
 
 -- a job tested twice is a job tested once
 twice : {X : Type 0} (t : Result (Unit {0}) JobFault) (f : Unit {0} → Result X Refused)
@@ -124,6 +124,10 @@ line_stopped j file line left (call.Job why) other h = (other, inr (inl (refused
 line_stopped j file line left call.FontLarge other h = (other, inr (inl (refused large, h, refl)))
 line_stopped j file line left call.UnknownFit other h = (other, inr (inl (unknown_fit, h, refl)))
 line_stopped j file line left call.LineEnds other h = (other, inr (inl (line_ends, h, refl)))
+line_stopped j file line left call.UnknownAlign other h = (other, inr (inl (unknown_align, h, refl)))
+line_stopped j file line left call.WidthRange other h = (other, inr (inl (width_range, h, refl)))
+line_stopped j file line left call.BoxRange other h = (other, inr (inl (box_range, h, refl)))
+line_stopped j file line left call.BoxSmall other h = (other, inr (inl (box_small, h, refl)))
 line_stopped j file line left call.NotUtf8 other h = (other, inr (inl (not_utf8, h, refl)))
 line_stopped j file line left call.Memory other h = (other, inl refl)
 
@@ -134,6 +138,10 @@ not_done (call.Job j) is = absurd (omega arith)
 not_done call.FontLarge is = absurd (omega arith)
 not_done call.UnknownFit is = absurd (omega arith)
 not_done call.LineEnds is = absurd (omega arith)
+not_done call.UnknownAlign is = absurd (omega arith)
+not_done call.WidthRange is = absurd (omega arith)
+not_done call.BoxRange is = absurd (omega arith)
+not_done call.BoxSmall is = absurd (omega arith)
 not_done call.NotUtf8 is = absurd (omega arith)
 not_done call.Memory is = absurd (omega arith)
 

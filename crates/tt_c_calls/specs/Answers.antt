@@ -8,7 +8,7 @@ use Rattle.tt_strike.specs.Refusals.{font, job, large}
 use Rattle.tt_c_calls.specs.declared.answer.CAnswer.{CAnswer}
 use Rattle.tt_c_calls.specs.declared.fault.CallFault.{CallFault}
 use Rattle.tt_c_calls.specs.declared.fault.CallFault.TheVariants as call
-use Rattle.tt_c_calls.specs.Refusals.{Refusal, line_ends, not_utf8, refused, unknown_fit}
+use Rattle.tt_c_calls.specs.Refusals.{Refusal, box_range, box_small, line_ends, not_utf8, refused, unknown_align, unknown_fit, width_range}
 
 -- an answer with nothing but a status and the number of a refusal
 abbrev pub plain_answer : ℕ → ℕ → CAnswer
@@ -46,6 +46,10 @@ refusal_answer (refused (job j)) = job_answer j
 refusal_answer (refused large) = plain_answer 3 0
 refusal_answer unknown_fit = plain_answer 2 66
 refusal_answer line_ends = plain_answer 2 67
+refusal_answer unknown_align = plain_answer 2 72
+refusal_answer width_range = plain_answer 2 69
+refusal_answer box_range = plain_answer 2 70
+refusal_answer box_small = plain_answer 2 71
 refusal_answer not_utf8 = plain_answer 6 0
 
 -- the answer where memory was refused
@@ -59,6 +63,10 @@ call_answer (call.Job j) = job_answer j
 call_answer call.FontLarge = plain_answer 3 0
 call_answer call.UnknownFit = plain_answer 2 66
 call_answer call.LineEnds = plain_answer 2 67
+call_answer call.UnknownAlign = plain_answer 2 72
+call_answer call.WidthRange = plain_answer 2 69
+call_answer call.BoxRange = plain_answer 2 70
+call_answer call.BoxSmall = plain_answer 2 71
 call_answer call.NotUtf8 = plain_answer 6 0
 call_answer call.Memory = memory_answer
 

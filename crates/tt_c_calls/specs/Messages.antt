@@ -43,6 +43,10 @@ job_message a =
     if a.number == 66 then codes "tt_render: 66 UnknownFit"
     else if a.number == 67 then codes "tt_render: 67 LineEnds"
     else if a.number == 68 then codes "tt_render: 68 GlyphNumber"
+    else if a.number == 69 then codes "tt_render: 69 WidthRange"
+    else if a.number == 70 then codes "tt_render: 70 BoxRange"
+    else if a.number == 71 then codes "tt_render: 71 BoxSmall"
+    else if a.number == 72 then codes "tt_render: 72 UnknownAlign"
     else refusal_text (job_fault_of a.number)
 
 abbrev pub room_message : CAnswer → List ℕ

@@ -76,7 +76,7 @@ fn of_job(fault: JobFault) -> CAnswer
 }
 
 /// The answer of a call that a fault stopped.
-pub(crate) fn answer_of(fault: CallFault) -> CAnswer
+pub fn answer_of(fault: CallFault) -> CAnswer
     ensures { result ≡ call_answer fault }
 {
     match fault {
@@ -84,6 +84,10 @@ pub(crate) fn answer_of(fault: CallFault) -> CAnswer
         CallFault::Job(fault) => of_job(fault),
         CallFault::UnknownFit => plain(2, 66),
         CallFault::LineEnds => plain(2, 67),
+        CallFault::UnknownAlign => plain(2, 72),
+        CallFault::WidthRange => plain(2, 69),
+        CallFault::BoxRange => plain(2, 70),
+        CallFault::BoxSmall => plain(2, 71),
         CallFault::FontLarge => plain(3, 0),
         CallFault::Memory => plain(5, 0),
         CallFault::NotUtf8 => plain(6, 0),

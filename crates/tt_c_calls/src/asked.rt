@@ -85,7 +85,7 @@ impl CJob {
 }
 
 /// How heights are rounded, by a number that is 0 or not.
-fn heights_asked(rounded: u32) -> Heights
+pub fn heights_asked(rounded: u32) -> Heights
     ensures { result ≡ heights_asked rounded }
 {
     if rounded == 0 {
@@ -114,7 +114,7 @@ pub(crate) fn face_reading(number: u32) -> Reading
 
 /// The way to fit of a number. Error: UnknownFit.
 #[tactic(auto, unfolding(crate::specs::Asked::fit_asked))]
-pub(crate) fn fit_of(number: u32) -> Result<Fit, CallFault>
+pub fn fit_of(number: u32) -> Result<Fit, CallFault>
     ensures exact { GivesUnless call_refusal (λ f. f) result (fit_asked number) }
     ensures memory { IfErr result (λ f. f ≢ call.Memory) }
 {
@@ -129,7 +129,7 @@ pub(crate) fn fit_of(number: u32) -> Result<Fit, CallFault>
 
 /// The text of some bytes. Error: NotUtf8.
 #[tactic(auto, unfolding(crate::specs::Asked::text_asked))]
-pub(crate) fn text_of(bytes: &[u8]) -> Result<&str, CallFault>
+pub fn text_of(bytes: &[u8]) -> Result<&str, CallFault>
     ensures exact { GivesUnless call_refusal (λ t. t.now) result (text_asked bytes.now) }
     ensures refused { IfErr result (λ f. f ≡ call.NotUtf8) }
 {

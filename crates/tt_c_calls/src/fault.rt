@@ -9,7 +9,7 @@ use tt_strike::DrawFault;
 
 /// Why a call has no answer.
 #[derive(Clone, Copy)]
-pub(crate) enum CallFault {
+pub enum CallFault {
     /// The font has this defect.
     Font(Fault),
     /// The job is refused.
@@ -20,6 +20,14 @@ pub(crate) enum CallFault {
     UnknownFit,
     /// A line ends past the texts, or before it begins.
     LineEnds,
+    /// The alignment has an unknown number.
+    UnknownAlign,
+    /// The width of a label is out of its range, or leaves no column between the margins.
+    WidthRange,
+    /// The box of a label is out of its range, leaves no pixel between the margins, or stands beside a width.
+    BoxRange,
+    /// The text of a label fits into its box at no size.
+    BoxSmall,
     /// The text is not UTF-8.
     NotUtf8,
     /// Memory was refused.

@@ -66,6 +66,10 @@ fn job_text(alloc: Global, told: &CAnswer) -> Result<String, AllocError>
         66 => String::from_str(alloc, "tt_render: 66 UnknownFit"),
         67 => String::from_str(alloc, "tt_render: 67 LineEnds"),
         68 => String::from_str(alloc, "tt_render: 68 GlyphNumber"),
+        69 => String::from_str(alloc, "tt_render: 69 WidthRange"),
+        70 => String::from_str(alloc, "tt_render: 70 BoxRange"),
+        71 => String::from_str(alloc, "tt_render: 71 BoxSmall"),
+        72 => String::from_str(alloc, "tt_render: 72 UnknownAlign"),
         number => match JobFault::of(number) {
             Some(fault) => line(alloc, &RunFault::Job(fault)),
             None => String::from_str(alloc, "tt_render: no such answer"),

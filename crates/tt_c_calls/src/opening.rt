@@ -51,7 +51,7 @@ pub(crate) fn face_of<'a>(font: &'a [u8], reading: Reading) -> Result<Face<'a>, 
 }
 
 /// The tables that every text needs, with the rules of its lines. Errors: as `face_of`.
-pub(crate) fn opened_face<'a>(font: &'a [u8], opening: Opening) -> Result<Face<'a>, CallFault>
+pub fn opened_face<'a>(font: &'a [u8], opening: Opening) -> Result<Face<'a>, CallFault>
     ensures exact { GivesUnless call_refusal (λ f. f) result (opened_wanted opening font.now) }
     ensures defects { TellsDefects call_font_fault (IsFaceDefectBy font.now opening.reading) result }
     ensures memory { IfErr result (λ f. f ≢ call.Memory) }

@@ -42,7 +42,7 @@ pub struct Band {
 }
 
 /// A picture's description for C.
-pub(crate) fn told_of(picture: &Picture) -> CPicture
+pub fn told_of(picture: &Picture) -> CPicture
     ensures { result ≡ picture_told picture.now }
 {
     CPicture {
@@ -72,7 +72,7 @@ pub(crate) fn picture_of(alloc: Global, request: &TextRequest) -> Result<Picture
 
 /// Writes a band of a picture at the front of a caller's room: at most `count` rows from row `first` on. Describes the
 /// picture in `told`. Answers: done; or the room is too small, and `room` and `told` are unchanged.
-pub(crate) fn write_band(
+pub fn write_band(
     picture: &mut Picture,
     first: u32,
     count: u32,

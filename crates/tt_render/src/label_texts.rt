@@ -35,7 +35,11 @@ fn list_all(listed: &mut Vec<char>, more: &[char]) -> Result<(), AllocError>
 }
 
 /// The distinct characters of a label's lines without a glyph, in order of first appearance. Error: memory ran out.
-fn lines_lacking(alloc: Global, strike: &mut Strike, text: &str) -> Result<Vec<char>, AllocError>
+pub fn lines_lacking(
+    alloc: Global,
+    strike: &mut Strike,
+    text: &str,
+) -> Result<Vec<char>, AllocError>
     ensures exact { IfOk result (λ v. v.items ≡ lines_lacking strike.old.face.cmap (label_lines text.now)) }
     ensures same { strike.new ≡ strike.old }
 {

@@ -9,3 +9,4 @@ mod label_texts;
 mod signs;
 
 pub use label_drawing::{draw_label, draw_labels};
+pub use label_texts::lines_lacking;
