@@ -268,7 +268,8 @@ def examples(room):
     code = "\n".join(blocks)
     folder = re.search(r"/tmp/[\w./]*?(?=[/\s])", code)[0]
     ran = room.run(code.replace(folder, str(room.path / "made")), "examples")
-    names = re.findall(re.escape(folder) + r"/(\w+\.pbm)", code)
+    names = re.findall(re.escape(folder) + r"/([\w%]+\.(?:pbm|png))", code)
+    names = [it.replace("%d", number) for it in names for number in ("12" if "%d" in it else "1")]
     faults = ran.faults() + [f"no picture in {it}" for it in names if not pictures(room.read(f"made/{it}"))]
     common.verdict("examples/README.md", faults or ([] if b"#" in ran.stdout else ["draw.py prints no picture"]))
 
