@@ -7,8 +7,6 @@ import markdown
 CRATES = """tt_advice tt_bitmap_font tt_program_decisions tt_render tt_render_lines tt_render_run tt_render_settings
 tt_render_streams tt_render_texts""".split()
 OTHERS = "advising faces fault layout_texts measure_text refusal space_fault".split()
-# Messages about boxes, which no command has yet.
-NOT_YET = ("--box is ", "the text fits into this box")
 # What a line of roff begins with, for a text in one font, and in two fonts by turns.
 ONE, TWO = (".B", ".I"), (".BI", ".BR", ".IB", ".IR", ".RB", ".RI")
 # The options that need no example.
@@ -51,7 +49,7 @@ def lacking(files):
     for file, text in messages(files):
         front = re.split(r"; |: | \(", text)[0].strip()
         pattern = r"\S+".join(re.escape(it) for it in re.split(r"\{[^}]*\}", front))
-        if " " in front and not front.startswith(NOT_YET) and not re.search(rf"(?<!\w){pattern}(?!\w)", words):
+        if " " in front and not re.search(rf"(?<!\w){pattern}(?!\w)", words):
             faults.append(f"tt_render.1 lacks {front!r} of {file}")
     return faults
 
