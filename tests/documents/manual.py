@@ -56,7 +56,7 @@ def lacking(files):
 
 def without_example():
     """Returns the options of the page that no example there has."""
-    text = markdown.read("tt_render.1").replace("\\-", "-")
+    text = re.sub(r"\\f.", "", markdown.read("tt_render.1").replace("\\-", "-"))
     parts = dict(re.findall(r"^\.SH ([^\n]*)\n(.*?)(?=^\.SH |\Z)", text, re.S | re.M))
     heads = re.findall(r"^\.TP\n(.*)$", parts["OPTIONS"], re.M)
     options = [it[0] for it in (re.search(r"(?<!\w)--?[a-z][\w-]*|-V", head) for head in heads) if it]
