@@ -52,6 +52,7 @@ def reports(documents):
     common.verdict("toolchain", facts.toolchain())
     common.verdict("minutes", facts.minutes(documents))
     common.verdict("messages in the manual", manual.lacking(sources))
+    common.verdict("options with an example", manual.without_example())
 
 
 def citations():

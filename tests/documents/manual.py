@@ -1,4 +1,4 @@
-"""The messages of the program, each of which the page of the manual has."""
+"""The page of the manual: the messages of the program, each of which it has, and an example for each option."""
 import re
 
 import markdown
@@ -7,10 +7,10 @@ import markdown
 CRATES = """tt_advice tt_bitmap_font tt_program_decisions tt_render tt_render_lines tt_render_run tt_render_settings
 tt_render_streams tt_render_texts""".split()
 OTHERS = "advising faces fault layout_texts measure_text refusal space_fault".split()
-# Messages about boxes, which no command has yet.
-NOT_YET = ("--box is ", "the text fits into this box")
 # What a line of roff begins with, for a text in one font, and in two fonts by turns.
 ONE, TWO = (".B", ".I"), (".BI", ".BR", ".IB", ".IR", ".RB", ".RI")
+# The options that need no example.
+PLAIN = "-h", "-V"
 
 
 def plain(line):
@@ -49,6 +49,17 @@ def lacking(files):
     for file, text in messages(files):
         front = re.split(r"; |: | \(", text)[0].strip()
         pattern = r"\S+".join(re.escape(it) for it in re.split(r"\{[^}]*\}", front))
-        if " " in front and not front.startswith(NOT_YET) and not re.search(rf"(?<!\w){pattern}(?!\w)", words):
+        if " " in front and not re.search(rf"(?<!\w){pattern}(?!\w)", words):
             faults.append(f"tt_render.1 lacks {front!r} of {file}")
     return faults
+
+
+def without_example():
+    """Returns the options of the page that no example there has."""
+    text = re.sub(r"\\f.", "", markdown.read("tt_render.1").replace("\\-", "-"))
+    parts = dict(re.findall(r"^\.SH ([^\n]*)\n(.*?)(?=^\.SH |\Z)", text, re.S | re.M))
+    heads = re.findall(r"^\.TP\n(.*)$", parts["OPTIONS"], re.M)
+    options = [it[0] for it in (re.search(r"(?<!\w)--?[a-z][\w-]*|-V", head) for head in heads) if it]
+    shown = " ".join(re.findall(r"^\.EX\n(.*?)^\.EE$", parts["PIPES"] + parts["EXAMPLES"], re.S | re.M))
+    lost = [it for it in options if it not in PLAIN and not re.search(rf"(?<![\w-]){it}(?![\w-])", shown)]
+    return [f"tt_render.1 has no example with {it}" for it in lost] + ([] if options else ["it has no options"])

@@ -20,8 +20,6 @@ ALPHABET = "AAAAAABBB    --\u2010\u200b12.(\u4e00\u3042\u3001\u300c\n"
 MARKED = "Ae\u0301\u0308\u0323\u030a\u1112\u1161\u11ab n\u0303"
 TEXTS = 120
 SEED = 84
-# One of this many installed fonts has the laws of boxes, which ask for many sizes.
-BOXES = 4
 # The longest texts that may cost the most.
 LONG = {"blanks": " " * 4096, "marks": "A" + "\u0308" * 4095, "ideographs": "\u4e00" * 4096, "hyphens": "A-" * 2048}
 
@@ -124,7 +122,7 @@ def box_faults(asked, face, text, width, height, margin, align):
         return [f"refused, and fits at {it}" for it in sizes if fits(it)]
     if status or model.rows_of(picture)[0] != width or len(model.rows_of(picture)[1]) != height:
         return [f"status {status}, and another size: {errors[:200]!r}"]
-    low, size = breaking.LEAST - 1, breaking.GREATEST
+    low, size = breaking.LEAST - 1, face.greatest(height - 2 * margin)
     while size - low > 1:
         middle = (low + size) // 2
         low, size = (low, middle) if at(middle)[1] == picture else (middle, size)
@@ -206,9 +204,23 @@ def long_texts(asked):
             common.tried("long text as an empty one", (status, picture, b""), wanted)
 
 
-def in_each_font(asked, name, judged, step=1):
-    """Judges each installed font, or one of some, by a function of a font and its number."""
-    found = on_fonts.fonts()[::step]
+def long_boxes(asked):
+    """The longest texts in a box: at the size that is drawn the rows are whole, or no size fits."""
+    folder = asked.folder(labels.fonts(cases.HERE / "fonts.txt")["words"])
+    for name, text in LONG.items():
+        for box in "384x120", "16384x4096":
+            status, picture, errors = asked.run(["label", "--box", box, "F.ttf", text], folder)
+            if status == 2:
+                faults = [] if errors.startswith(b"tt_render: 71 BoxSmall\n") else [f"{errors[:200]!r}"]
+            else:
+                head = f"P4\n{box.replace('x', ' ')}\n".encode()
+                faults = [] if status == 0 and picture.startswith(head) else [f"status {status}, and {picture[:20]!r}"]
+            common.verdict(f"long text in {box}: {name}", faults)
+
+
+def in_each_font(asked, name, judged):
+    """Judges each installed font by a function of a font and its number."""
+    found = on_fonts.fonts()
     for path, faults in zip(found, asked.each(judged, found, range(len(found)))):
         common.verdict(f"{name} {path}", faults)
     if not found:
@@ -227,10 +239,10 @@ def installed_widths(asked):
 
 
 def installed_boxes(asked):
-    """The laws of --box for a sentence in some installed fonts."""
+    """The laws of --box for a sentence in each installed font. Low boxes ask for few sizes."""
 
     def judged(path, at):
         face, align = on_fonts.Face(asked, path, at % 4 == 1), model.ALIGNS[at % 3]
-        return box_faults(asked, face, on_fonts.SENTENCE, 384, 80 + at % 90, at % 4, align)
+        return box_faults(asked, face, on_fonts.SENTENCE, 384, 24 + at % 57, at % 4, align)
 
-    in_each_font(asked, "laws of box", judged, BOXES)
+    in_each_font(asked, "laws of box", judged)

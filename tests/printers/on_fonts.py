@@ -18,6 +18,8 @@ LETTERS = "Ame\u0301lie nai\u0308ve A\u030angstro\u0308m Vie\u0323\u0302t \u1112
 MARGINS = 0, 3, 16
 # Of how many fonts one has a box beside the model, which asks for many sizes.
 BOXES = 16
+# The box of files in PNG.
+LOW = "384x80"
 
 
 class Face:
@@ -54,13 +56,21 @@ class Face:
         """Returns the rows of a text."""
         return [it for line in model.label_lines(text) for it in breaking.rows_of(self.units(size, line), room)]
 
-    def rows_in_box(self, size, text, room, free):
-        """Returns the same, and none where they are higher than the box."""
+    def high(self, size):
+        """Returns how many rows of pixels a row of text has."""
         font = re.search(rb"^font (\d+) (-?\d+) (-?\d+) ", self.said("measure", 16, "A", "--no-ink")[1], re.M)
         em, ascent, descent = map(int, font.groups())
-        high = -(-ascent * size // em) + -(descent * size // em)
-        found = self.rows(size, text, room) if high <= free else []
-        return found if len(found) * high <= free else []
+        return -(-ascent * size // em) + -(descent * size // em)
+
+    def greatest(self, free):
+        """Returns the greatest size that a box tries at which a row is low enough, at least the least one."""
+        low = (it for it in range(breaking.GREATEST, breaking.LEAST, -1) if self.high(it) <= free)
+        return next(low, breaking.LEAST)
+
+    def rows_in_box(self, size, text, room, free):
+        """Returns the rows of a text, and none where they are higher than the box."""
+        found = self.rows(size, text, room) if self.high(size) <= free else []
+        return found if len(found) * self.high(size) <= free else []
 
     def told(self, size, rows, text, cut=()):
         """Returns what `label` tells of a text."""
@@ -69,9 +79,9 @@ class Face:
         return lines_of(told + model.told_of_font(self.front, None, self.path))
 
 
-def in_each(asked, name, answered):
-    """Compares two answers for each installed font: a function's of a font and its number."""
-    found = fonts()
+def in_each(asked, name, answered, step=1):
+    """Compares two answers for each installed font, or one of some: a function's of a font and its number."""
+    found = fonts()[::step]
     for path, (got, wanted) in zip(found, asked.each(answered, found, range(len(found)))):
         common.tried(f"{name} {path}", got, wanted)
     if not found:
@@ -93,23 +103,18 @@ def width(asked):
 
 
 def box(asked):
-    """A sentence with --box: in each font a picture of that size without a word; in some fonts the model's."""
+    """A sentence with --box in some fonts: the picture of the model, and what is told at its size."""
 
     def answered(path, at):
-        align, margin = model.ALIGNS[at % 3], MARGINS[at % 3]
+        align, margin = model.ALIGNS[at % 3], MARGINS[at // 3 % 3]
         words = ["label", "--box", f"{WIDTH}x{HEIGHT}", "--align", align, "--margin", str(margin)]
-        got = asked.run([*words, "--", path, SENTENCE])
-        if at % BOXES:
-            head = f"P4\n{WIDTH} {HEIGHT}\n".encode()
-            size = len(head) + WIDTH // 8 * HEIGHT
-            return (got[0], got[1][: len(head)], b"%d" % len(got[1])), (0, head, b"%d" % size)
         face = Face(asked, path)
         rows_at = lambda size, room, free: face.rows_in_box(size, SENTENCE, room, free)
-        picture, size = in_box(rows_at, face.line, margin, align, WIDTH, HEIGHT)
+        picture, size = in_box(rows_at, face.line, margin, align, WIDTH, HEIGHT, face.greatest(HEIGHT - 2 * margin))
         rows = face.rows(size, SENTENCE, WIDTH - 2 * margin)
-        return got, (0, picture, face.told(size, rows, SENTENCE))
+        return asked.run([*words, "--", path, SENTENCE]), (0, picture, face.told(size, rows, SENTENCE))
 
-    in_each(asked, "box", answered)
+    in_each(asked, "box", answered, BOXES)
 
 
 def composed(asked):
@@ -133,13 +138,17 @@ def pixels(data):
 
 
 def png(asked):
-    """Files in PNG in each font, beside P4: the file of cases.py, and what pngtopnm makes of the file."""
+    """Files in PNG in each font, of a size or in a box, beside P4: the file of cases.py, and what pngtopnm makes of the
+    file."""
     reads = shutil.which("pngtopnm")
 
     def answered(path, at):
-        words, name = ["label", "--size", "16", "--margin", "1"], asked.room / f"{at}.png"
+        space = ["--box", LOW] if at % 2 else ["--size", "16"]
+        words, name = ["label", *space, "--margin", "1"], asked.room / f"{at}.png"
         status, picture, told = asked.run([*words, "--", path, SENTENCE])
         got = asked.run([*words, "-o", name, "--", path, SENTENCE])
+        if told.startswith(b"tt_render: 71 BoxSmall\n"):
+            return (got, b"", b""), ((status, b"", told), b"", b"")
         file = name.read_bytes()
         name.unlink()
         again = subprocess.run([reads], input=file, capture_output=True).stdout if reads else b""

@@ -1,5 +1,5 @@
-"""The parts of printers/run with small fonts: letters that are composed, lines that fit a width, files in PNG, files
-that -o names, lines of which one is refused."""
+"""The parts of printers/run with small fonts: letters that are composed, lines that fit a width, boxes, files in PNG,
+files that -o names, lines of which one is refused."""
 import re
 import unicodedata
 
@@ -121,6 +121,49 @@ def try_png(asked):
         common.verdict(f"png {words}", is_fault(asked.run(["label", *SIZE, *words], folder)))
     got = asked.run(["label", *SIZE, "--png", "--missing", "refuse", "F.ttf", "Z"], folder)
     common.tried("png of a refused text", got, (2, b"", lines_of(["U+005A has no glyph"])))
+
+
+# Words of --box that are not two numbers below 2^32 with an x between them.
+NO_BOXES = "", "x", "40", "40x", "x40", "40X40", "40x40x40", "+4x4", "4x-4", "4 x4", "4x4 ", "4.0x4", "4294967296x1"
+
+
+def try_boxes(asked):
+    """Command lines with --box, its files, and least sizes below 5."""
+    folder = asked.folder(labels.fonts(cases.HERE / "fonts.txt")["T"])
+    for word in NO_BOXES:
+        common.verdict(f"box {word!r}", is_fault(asked.run(["label", "--box", word, "F.ttf", "A"], folder)))
+    box = ["--box", "40x30"]
+    for words in (["label", *box, *box], ["label", *box, "--width", "40"], ["label", "--width", "40"],
+                  *([it, *SIZE, *box] for it in ("draw", "measure", "bdf"))):
+        common.verdict(" ".join(words), is_fault(asked.run([*words, "F.ttf", "A"], folder)))
+    drawn = asked.run(["label", *box, "F.ttf", "A"], folder)
+    for words in (["--box=40x30"], ["--box", "040x0030"], [*box, "--size", "300"], [*box, "--align", "left"]):
+        common.tried(" ".join(words), asked.run(["label", *words, "F.ttf", "A"], folder), drawn)
+    got = asked.run(["label", *box, "--png", "F.ttf", "A"], folder)
+    common.tried("box in PNG", got, (0, cases.png_of(drawn[1]), b""))
+    for name, form in ("x.png", cases.png_of), ("x.pbm", bytes):
+        got = asked.run(["label", *box, "-o", name, "F.ttf", "A"], folder)
+        written(f"box in {name}", folder, got, (0, b"", b""), {name: form(drawn[1])})
+    got = asked.run(["label", "--box", "1x1", "-o", "x.png", "F.ttf", "A"], folder)
+    told = ["71 BoxSmall", "the text fits into this box at no size"]
+    written("no file of a text that fits at no size", folder, got, (2, b"", lines_of(told)), {})
+    for size in "1", "4", "5":
+        inks = [ink_of(asked.run(["label", "--size", size, *it, "F.ttf", "A"], folder)) for it in ([], box)]
+        common.verdict(f"box at most {size}", [] if inks[0] == inks[1] else [f"another ink: {inks}"])
+    words = ["label", *box, "--lines", "--keep-going", "-o", "%d.pbm", "F.ttf"]
+    got = asked.run(words, folder, b"A" * 99 + b"\nA\n")
+    written("box of lines", folder, got, (2, b"", lines_of(f"line 1: {it}" for it in told)), {"2.pbm": drawn[1]})
+
+
+def ink_of(got):
+    """Returns the black pixels of an answer by their places from the first one."""
+    status, picture, errors = got
+    if status:
+        return status, errors
+    width, rows = model.rows_of(picture)
+    places_ = [(x, y) for y, row in enumerate(rows) for x in range(width) if row >> (width - 1 - x) & 1]
+    first = [min(it) for it in zip(*places_)]
+    return [(x - first[0], y - first[1]) for x, y in places_]
 
 
 def left_in(folder):

@@ -90,16 +90,11 @@ def first_picture(room, command):
     return ["README.md shows another picture than this one:", *found[0]]
 
 
-def one_picture(room, command):
-    """A picture of two lines has all pixels of both, and is as wide as the wider one and twice as high."""
+def box_picture(room, command):
+    """A label in a box is the picture that README.md shows."""
     found, faults = drawn(room, command)
-    texts = re.search(r"printf '(.*)'", command)[1].split("\\n")
-    alone = [it for text in texts for it in of_text(room, command, text)]
-    black = [sum(row.count("#") for row in rows) for rows in found + alone]
-    sizes = [(len(rows[0]), len(rows)) for rows in found + alone]
-    right = len(sizes) == 3 and black[0] == black[1] + black[2]
-    right = right and sizes[0] == (max(sizes[1][0], sizes[2][0]), sizes[1][1] + sizes[2][1])
-    return faults or ([] if right else [f"{len(found)} pictures, or not one of {texts}"])
+    path = re.search(r"\]\((docs/pictures/[\w.]+)\)", README)[1]
+    return faults or ([] if found == pictures(room.read(path)) else [f"{path} is another picture than this one"])
 
 
 def two_lines(room, command):
@@ -160,7 +155,7 @@ def succeeds(room, command):
 # The commands of README.md by a pattern, each with the function that tries it and the program that it needs.
 KINDS = (
     (r"apt-get install", has_packages, "dpkg-query"),
-    (r"\./tt_render label .*--align", one_picture, "cc"),
+    (r"\./tt_render label --box", box_picture, "cc"),
     (r"\./tt_render label .*>", first_picture, "cc"),
     (r"printf .*--lines", two_lines, "cc"),
     (r"\./tt_render bdf ", bitmap_font, "cc"),
@@ -268,7 +263,8 @@ def examples(room):
     code = "\n".join(blocks)
     folder = re.search(r"/tmp/[\w./]*?(?=[/\s])", code)[0]
     ran = room.run(code.replace(folder, str(room.path / "made")), "examples")
-    names = re.findall(re.escape(folder) + r"/(\w+\.pbm)", code)
+    names = re.findall(re.escape(folder) + r"/([\w%]+\.(?:pbm|png))", code)
+    names = [it.replace("%d", number) for it in names for number in ("12" if "%d" in it else "1")]
     faults = ran.faults() + [f"no picture in {it}" for it in names if not pictures(room.read(f"made/{it}"))]
     common.verdict("examples/README.md", faults or ([] if b"#" in ran.stdout else ["draw.py prints no picture"]))
 

@@ -25,14 +25,14 @@ OF_ANY_TABLE = "NoTable"
 # The refusals that only a call of C gives, wherever they have their numbers.
 OF_C_ALONE = ("UnknownFit", "LineEnds", "UnknownAlign")
 # The refusals of fonts whose instances no command draws yet, so that no case can meet them.
-# Labels fill no box yet either.
-OF_NO_COMMAND = ("VariationShape", "NoAxis", "NoInstance", "GlyphVariation", "BoxRange", "BoxSmall")
+OF_NO_COMMAND = ("VariationShape", "NoAxis", "NoInstance", "GlyphVariation")
 # The refusals that have no case in tests/rows, and where their cases are.
 ELSEWHERE = {
     "WorkLarge": "tests/work/hostile_fonts.py",
     **dict.fromkeys(OF_C_ALONE, "tests/c/edges.c"),
     "GlyphNumber": "tests/glyph_sets/cases.txt",
     "WidthRange": "tests/printers/width.txt",
+    **dict.fromkeys(("BoxRange", "BoxSmall"), "tests/printers/box.txt"),
     **dict.fromkeys(("CollectionVersion", "NoFace"), "tests/faces/rows.txt"),
 }
 

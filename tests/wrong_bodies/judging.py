@@ -44,6 +44,24 @@ def load_rt():
     return made
 
 
+def take_kept(rt, crates):
+    """Gives some crates, each after those that it uses, the libraries that `rt ci` has kept on this machine.
+
+    An entry is named by a sum of the toolchain, of a crate's text and of the libraries below as they are here, and its
+    files are compared with sums of their own: so it is the library that a proof of this text made. From the first crate
+    on that has no entry, all are proved here.
+    """
+    kept = rt.Kept(crates)
+    for it in crates:
+        if not it.is_built():
+            shutil.rmtree(f"{it.folder}/out/rlib", ignore_errors=True)
+            if not kept.give(it, False, kept.key(it)):
+                return
+            with open(f"{it.folder}/out/rlib/stamp", "w", encoding="utf-8") as stamp:
+                stamp.write(it.stamp())
+        kept.is_built(it)
+
+
 class Edit:
     """An edit: the lines that it changes, and the functions whose bodies they are in. It is alone if one is in none."""
 
@@ -206,8 +224,12 @@ class Judge:
         return waiting
 
     def prove(self):
-        """Proves the crates below and the crate itself, and keeps the seed. Returns whether all are proved."""
+        """Proves the crates below, or takes them where `rt ci` has proved them, and the crate itself, and keeps the seed.
+
+        Returns whether all are proved.
+        """
         flags = ["--jobs", str(self.jobs)]
+        take_kept(self.rt, self.crate.below())
         if any(it.build_rlib(flags, anew=False) for it in self.crate.below()):
             return False
         self.seed = self.rt.seeded(self.crate, flags, self.rt.work_for(self.crate))
