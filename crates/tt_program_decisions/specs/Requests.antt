@@ -118,7 +118,7 @@ label_named n m (Some a) s (Some f) (Some w) face (Some rules) keeps form = Some
 })
 label_named n m a s f w face rules keeps form = None
 
--- the size, or in a box the greatest size to try, which may be left out
+-- the size, or in a box the greatest size to try, which may be absent
 abbrev pub size_asked : Option ℕ → Option Space → Option ℕ
 size_asked (Some n) s = Some n
 size_asked None (Some (space.Box b)) = Some size_limit

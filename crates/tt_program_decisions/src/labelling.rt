@@ -100,7 +100,7 @@ fn label_options_of<'a, A: Arguments<'a>>(arguments: &A) -> Option<LabelOptions>
     })
 }
 
-/// The size of a label, or the greatest size to try in a box, which may be left out.
+/// The size of a label, or the greatest size to try in a box, which may be absent.
 fn size_asked(size: Option<u32>, space: Option<Space>) -> Option<u32>
     ensures { result ≡ size_asked size space }
 {

@@ -31,7 +31,7 @@ fn box_asked(words: &str) -> Option<Space>
 }
 
 impl Space {
-    /// The space by the options of a width and of a box, of which the command line has one at most. None: the words of the
+    /// The space by the options of a width and of a box. The command line has one of the two at most. None: the words of the
     /// box are of another form.
     pub fn asked(width: Option<u32>, boxed: Option<&str>) -> Option<Space>
         ensures { result ≡ space_asked width (option_map (λ s. s.now) boxed.entry) }
