@@ -1,4 +1,3 @@
-mod BoxedLabels
 mod LabelCalls
 mod LabelLines
 mod LabelTexts
