@@ -132,7 +132,7 @@ class Calls(unittest.TestCase):
             self.assertEqual((own.right - own.left, own.bottom - own.top), (other.right - other.left, other.bottom - other.top))
             self.assertEqual(self.font.label("Shelf", got.size, box=(100, 60)), got)
             if got.size < most:
-                self.assertGreater(self.font.layout("Shelf", got.size + 1).width, 100)
+                self.assertGreater(self.font.draw("Shelf", got.size + 1).width, 100)
 
     def test_label_misses(self):
         self.assertEqual(self.font.label("A\U0010ffff\U0010ffff\n\U0010ffff\U0010fffe", 16).missing, 2)
