@@ -60,8 +60,8 @@ def lines(asked):
     told("lines: the second line, labels", asked.labels("best", 16, at_two + cheap), asked.labels("none", 16, at_two + cheap))
     told("lines: the second line, 1 too little, labels", asked.labels("best", 16, past_two + cheap),
          (2, asked.labels("none", 16, past_two)[1], ["tt_render: line 2: 65 WorkLarge"]))
-    told("lines: past a spent budget", asked.lines("best", 16, past_two + cheap * 2, "--keep-going"),
-         (2, asked.lines("none", 16, past_two)[1], [f"tt_render: line {it}: 65 WorkLarge" for it in (2, 3)]))
+    told("lines: past a spent budget", asked.lines("best", 16, past_two + cheap * 3, "--keep-going"),
+         (2, asked.lines("none", 16, past_two + cheap * 2)[1], ["tt_render: line 2: 65 WorkLarge"]))
     drawn(asked, "nothing behind a spent budget", past_two)
     refused(asked, "a long line behind a spent budget", past_two + b"A" * 16385 + b"\n", 2, why="61 TextLong")
     refused(asked, "no UTF-8 behind a spent budget", past_two + b"\xff\n", 2)

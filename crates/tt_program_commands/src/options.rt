@@ -60,6 +60,15 @@ pub(crate) const WIDTH: Argument = Argument {
     ..PLAIN
 };
 
+pub(crate) const BOX: Argument = Argument {
+    name: "box",
+    takes: Takes::Text,
+    values: &["WxH"],
+    conflicts: &["width"],
+    help: "Make the picture W by H, at the greatest size that fits",
+    ..PLAIN
+};
+
 pub(crate) const ALIGN: Argument = Argument {
     name: "align",
     takes: Takes::OneOf(ALIGNS),

@@ -2,7 +2,7 @@
 
 use crate::arguments::Argument;
 use crate::options::{
-    ALIGN, FACE, FIT, FIT_BEST, FONT, GROW, HEIGHT, KEEP_GOING, KERN, LINES, MARGIN, MISSING,
+    ALIGN, BOX, FACE, FIT, FIT_BEST, FONT, GROW, HEIGHT, KEEP_GOING, KERN, LINES, MARGIN, MISSING,
     MISSING_TOLD, NO_INK, OUTPUT, PNG, RANGE, SIZE, TEXT, TEXT_OR_LINES, WIDTH,
 };
 
@@ -44,13 +44,19 @@ const LABEL: Subcommand = Subcommand {
          A TEXT that begins with '-' goes after '--':\n  tt_render label --size N FONT -- -text",
     ),
     arguments: &[
-        SIZE,
+        Argument {
+            required: false,
+            unless: &["box"],
+            help: "Pixels per em, 1 to 300; with --box at most so many",
+            ..SIZE
+        },
         Argument {
             help: "Pixels round the lines, 0 to 64",
             ..MARGIN
         },
         ALIGN,
         WIDTH,
+        BOX,
         FIT_BEST,
         FACE,
         MISSING_TOLD,

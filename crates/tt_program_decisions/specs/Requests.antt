@@ -1,8 +1,9 @@
 -- No part of the standard: the requests of the program's command lines, and their performance.
-use Rattle.std.specs.Prelude.{◌≡◌, ℕ, Bool, true, false, List, codes, Option, Some, None, is_some, option_map, IfSome, if◌then◌else◌, ⊤}
+use Rattle.std.specs.Prelude.{◌≡◌, refl, ℕ, Bool, true, false, List, codes, Option, Some, None, is_some, option_map, IfSome, if◌then◌else◌, ⊤}
 use Rattle.std.specs.Str.{bytes_eq}
 use Rattle.tt_core.specs.declared.collection.Reading.{Reading}
 use Rattle.tt_core.specs.declared.collection.Reading.TheVariants as reading
+use Rattle.tt_core.specs.Limits.{size_limit}
 use Rattle.tt_fit.specs.declared.programs.Fit.{Fit}
 use Rattle.tt_fit.specs.declared.programs.Fit.TheVariants as fit
 use Rattle.tt_face.specs.declared.rules.LineRules.{LineRules}
@@ -21,6 +22,7 @@ use Rattle.tt_line.specs.Layout.{text_glyphs}
 use Rattle.tt_render.specs.Labels.{FontLabelGives, FontLabelsGive, HintsBy, composed_glyphs}
 use Rattle.tt_render_settings.specs.declared.setting.Setting.{Setting}
 use Rattle.tt_render_settings.specs.declared.space.Space.{Space}
+use Rattle.tt_render_settings.specs.declared.space.Space.TheVariants as space
 use Rattle.tt_render_settings.specs.Spaces.{space_asked}
 use Rattle.tt_render.specs.LabelSpaces.{ClaimsIfFree}
 use Rattle.tt_render_lines.specs.LayoutTexts.{FontLayoutGives, IsLayoutDefect}
@@ -116,12 +118,18 @@ label_named n m (Some a) s (Some f) (Some w) face (Some rules) keeps form = Some
 })
 label_named n m a s f w face rules keeps form = None
 
+-- the size, or in a box the greatest size to try, which may be left out
+abbrev pub size_asked : Option ℕ → Option Space → Option ℕ
+size_asked (Some n) s = Some n
+size_asked None (Some (space.Box b)) = Some size_limit
+size_asked None s = None
+
 -- `--size SIZE --margin MARGIN --align ALIGN`, the requested space, `--fit FIT --missing MISSING`, `--face FACE`, and the rules
 -- of lines; options may be absent; whether there is `--keep-going`, and the format of pictures
 abbrev pub label_options_asked
-    : Option ℕ → Option ℕ → Option (List ℕ) → Space → Option (List ℕ) → Option (List ℕ) → Option ℕ → Option LineRules
-    → Bool → PictureFormat → Option LabelOptions
-label_options_asked (Some n) (Some m) (Some side) s (Some how) (Some what) face rules keeps form =
+    : Option ℕ → Option ℕ → Option (List ℕ) → Option Space → Option (List ℕ) → Option (List ℕ) → Option ℕ
+    → Option LineRules → Bool → PictureFormat → Option LabelOptions
+label_options_asked (Some n) (Some m) (Some side) (Some s) (Some how) (Some what) face rules keeps form =
     label_named n m (align_named side) s (fit_named how) (missing_named what) face rules keeps form
 label_options_asked n m side s how what face rules keeps form = None
 
@@ -255,8 +263,9 @@ AsksLabelOptions text IsNumber IsFlag answer =
     (size margin width face : Option ℕ) × (rules : Option LineRules) × (keeps png : Bool) × IsNumber (codes "size") size
     × IsNumber (codes "margin") margin × IsNumber (codes "width") width × IsNumber (codes "face") face
     × AsksRules text IsFlag rules × IsFlag (codes "keep-going") keeps × IsFlag (codes "png") png
-    × (answer ≡ label_options_asked size margin (text (codes "align")) (space_asked width) (text (codes "fit"))
-    (text (codes "missing")) face rules keeps (format_asked png (text (codes "output"))))
+    × (answer ≡ label_options_asked (size_asked size (space_asked width (text (codes "box")))) margin
+    (text (codes "align")) (space_asked width (text (codes "box"))) (text (codes "fit")) (text (codes "missing")) face
+    rules keeps (format_asked png (text (codes "output"))))
 
 -- the request of `label` by its arguments
 abbrev pub AsksLabel
@@ -353,3 +362,18 @@ abbrev pub UnlessLines : Request → Type 0 → Type 0
 UnlessLines (Lines font setting) P = ⊤
 UnlessLines (Labels font options output) P = ⊤
 UnlessLines r P = P
+
+-- worked values
+a_box : Option Space
+a_box = Some (space.Box (record { width = 40; height = 30 }))
+
+sizes_in_a_box : size_asked None a_box ≡ Some 300
+unfolding a_box
+sizes_in_a_box = refl
+
+a_greatest_size : size_asked (Some 12) a_box ≡ Some 12
+unfolding a_box
+a_greatest_size = refl
+
+no_size_elsewhere : size_asked None (Some (space.Width 40)) ≡ None
+no_size_elsewhere = refl

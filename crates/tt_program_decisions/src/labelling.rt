@@ -1,12 +1,12 @@
 //! The request `label`: its options, and how they say that a label is drawn.
 
 ghost use Rattle.std.specs.Prelude.{◌≡◌, option_map};
-ghost use Rattle.tt_program_decisions.specs.Requests.{AsksLabel, AsksLabelOptions, IsLabelFor, align_named, asked_of};
+ghost use Rattle.tt_program_decisions.specs.Requests.{AsksLabel, AsksLabelOptions, IsLabelFor, align_named, asked_of, size_asked};
 
 use crate::output::format_asked;
 use crate::request::{Arguments, GLYPHS_KEPT, Request, fit_named, missing_named};
 use crate::rules::rules_of;
-use tt_core::Reading;
+use tt_core::{Reading, SIZE_LIMIT};
 use tt_face::{LineRules, Opening};
 use tt_fit::Fit;
 use tt_program_words::{CENTRE, LEFT, RIGHT};
@@ -16,6 +16,7 @@ use tt_render_texts::{PictureFormat, reading_asked};
 /// The options of `label`.
 #[derive(Clone, Copy)]
 pub struct LabelOptions {
+    /// The size, or in a box the greatest size to try.
     pub size: u32,
     pub margin: u32,
     pub align: Align,
@@ -67,15 +68,16 @@ pub(crate) fn labelling_of<'a, A: Arguments<'a>>(arguments: &A) -> Option<Reques
 }
 
 /// The options `--size SIZE --margin MARGIN --align ALIGN --fit FIT --missing MISSING`, where all are present, and
-/// `--face FACE` and `--width WIDTH`, which may be absent, with the rules of `rules_of`; and `--keep-going`, `--png` and
-/// `--output FILE`. None where there are no rules, or where the name of a
-/// side, of the way to fit, or of the treatment of missing glyphs, is unknown.
+/// `--face FACE`, `--width WIDTH` and `--box WxH`, which may be absent, with the rules of `rules_of`; and `--keep-going`,
+/// `--png` and `--output FILE`. With `--box` `--size` may be absent too. None where there are no rules, where the words of
+/// the box are of another form, or where the name of a side, of the way to fit, or of the treatment of missing glyphs, is
+/// unknown.
 fn label_options_of<'a, A: Arguments<'a>>(arguments: &A) -> Option<LabelOptions>
     ensures { AsksLabelOptions (A.text arguments.now) (A.IsNumber arguments.now) (A.IsFlag arguments.now) result }
 {
-    let size = arguments.number_for("size");
+    let space = Space::asked(arguments.number_for("width"), arguments.text_for("box"));
+    let size = size_asked(arguments.number_for("size"), space);
     let margin = arguments.number_for("margin");
-    let space = Space::asked(arguments.number_for("width"));
     let align = arguments.text_for("align");
     let fit = arguments.text_for("fit");
     let missing = arguments.text_for("missing");
@@ -88,7 +90,7 @@ fn label_options_of<'a, A: Arguments<'a>>(arguments: &A) -> Option<LabelOptions>
         size: size?,
         margin: margin?,
         align: align_named(align?)?,
-        space,
+        space: space?,
         fit: fit_named(fit?)?,
         missing: missing_named(missing?)?,
         face,
@@ -96,6 +98,19 @@ fn label_options_of<'a, A: Arguments<'a>>(arguments: &A) -> Option<LabelOptions>
         keep_going,
         format,
     })
+}
+
+/// The size of a label, or the greatest size to try in a box, which may be left out.
+fn size_asked(size: Option<u32>, space: Option<Space>) -> Option<u32>
+    ensures { result ≡ size_asked size space }
+{
+    match size {
+        Some(size) => Some(size),
+        None => match space {
+            Some(Space::Box(_)) => Some(SIZE_LIMIT),
+            _ => None,
+        },
+    }
 }
 
 /// The side that has this name.

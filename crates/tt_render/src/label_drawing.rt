@@ -118,13 +118,14 @@ fn draw<'n>(
 }
 
 /// Draws one text as a label by a font, and puts its picture into its place: that of its lines, one below the other,
-/// enlarged so that no ink is cut; or that of its rows in the requested width, whose report says what is cut at the sides.
-/// Before that the picture is whole in memory. Then its report is printed on `error`, and behind
+/// enlarged so that no ink is cut; that of its rows in the requested width, whose report says what is cut at the sides; or
+/// that of its rows in the requested box, at the greatest size that fits, which is not above that of the setting. Before
+/// that the picture is whole in memory. Then its report is printed on `error`, and behind
 /// that report the lines about the font. A failure of `error` does not change the answer.
 ///
-/// Errors, the first of these, with no line: Job (SizeRange, MarginRange), Space (WidthRange) and Job (TextLong, of more
-/// than 4,096 characters), before the font is read; FontRead, FontLarge; Font, of the tables needed for every text; Font and Job of `label`;
-/// Missing; Create; and Write. Memory may come at any allocation, and then nothing was written. A fault of the font has the hint
+/// Errors, the first of these, with no line: Job (SizeRange, MarginRange), Space (WidthRange, BoxRange) and Job (TextLong, of
+/// more than 4,096 characters), before the font is read; FontRead, FontLarge; Font, of the tables needed for every text; Font and
+/// Job of `label`; Space (BoxSmall, of a text that fits into its box at no size); Missing; Create; and Write. Memory may come at any allocation, and then nothing was written. A fault of the font has the hint
 /// about the font's file.
 pub fn draw_label<R: Source, P: Pictures, E: Sink>(
     alloc: Global,
@@ -271,10 +272,8 @@ fn draw_labels_by<R: Source, P: Pictures, E: Sink>(
             Ok(Found::Line(place)) => place,
             Ok(Found::End) => return Ok(first),
             Ok(Found::Refused(why)) => {
-                let cost = refused_cost(Refusal::Job(why));
                 let fault = texts_fault(Some(number), Refusal::Job(why));
                 first = pass(alloc, asked, fault, first, error)?;
-                used += cost;
                 continue;
             }
             Err(why) => return Err(texts_fault(Some(number), why)),
@@ -331,10 +330,10 @@ fn draw_labels_of<R: Source, P: Pictures, E: Sink>(
 /// behind the first one come the lines about the font. A failure of `error` does not stop the drawing. With `Fit::Best`
 /// the lines share the budget of `draw_lines`.
 ///
-/// Errors, the first of: Job (SizeRange, MarginRange) and Space (WidthRange), before the font is read; FontRead, FontLarge;
+/// Errors, the first of: Job (SizeRange, MarginRange) and Space (WidthRange, BoxRange), before the font is read; FontRead, FontLarge;
 /// Font, of the tables needed for every text; then, line by line, with the line's number, from 1: Read; Job (TextLong, of more than
 /// 16,384 bytes; WorkLarge, where the lines before it took more than their budget); NotUtf8; Font and Job of `label`;
-/// Missing; Create, where no place is made for its picture; and Write. Many comes after 4,294,967,295 lines, and after
+/// Space (BoxSmall); Missing; Create, where no place is made for its picture; and Write. Many comes after 4,294,967,295 lines, and after
 /// 2^64 - 1 reads of one line. Memory may come at any allocation. A fault of the font has the hint about the font's file.
 pub fn draw_labels<F: Source, R: Source, P: Pictures, E: Sink>(
     alloc: Global,

@@ -215,10 +215,8 @@ fn draw_lines_by<R: Source, W: Sink, E: Sink>(
                 });
             }
             Ok(Found::Refused(why)) => {
-                let cost = refused_cost(Refusal::Job(why));
                 let fault = texts_fault(Some(number), Refusal::Job(why));
                 first = pass(alloc, setting.keep_going, fault, first, error)?;
-                used += cost;
                 continue;
             }
             Err(why) => return Err(texts_fault(Some(number), why)),

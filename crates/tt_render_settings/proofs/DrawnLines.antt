@@ -11,7 +11,7 @@ use Rattle.tt_strike.specs.Strikes.{Strike}
 use Rattle.tt_render_settings.specs.declared.setting.Setting.{Setting}
 use Rattle.tt_render_texts.specs.declared.refusal.TextsFault.{TextsFault}
 use Rattle.tt_render_texts.specs.LineReading.{BeginsLong, LosesLine}
-use Rattle.tt_render_settings.specs.Lines.{Drawing, LinesDrawn, cost_drawn, cost_refused, drawn_from, drawn_with, line_drawn, lines_budget, passed_with, passing, text_drawn, tried}
+use Rattle.tt_render_settings.specs.Lines.{Drawing, LinesDrawn, cost_behind, cost_drawn, drawn_from, drawn_with, line_drawn, lines_budget, passed_with, passing, text_drawn, tried}
 use Rattle.tt_render_texts.specs.Lines.{line_limit, lines_of}
 use Rattle.tt_render_settings.specs.TextsOutcome.{HasLine, IsFirst, SendsDrawn, SendsFirstLines, SendsSome, earlier, told}
 use Rattle.tt_render_texts.specs.streams.Traffic.{Traffic}
@@ -148,7 +148,7 @@ drawn_append d n used [] rest none =
 drawn_append d n used (line ∷ lines) rest none =
     let same : n + length (line ∷ lines) ≡ n + 1 + length lines = omega arith in
     let r = tried d n used line in
-    let later = used + cost_drawn r in
+    let later = used + cost_behind n used r in
     rw same (after_drawn d (n + 1) used r (drawn_from d (n + 1) later lines) (drawn_from d (n + 1) later (lines ++ rest))
     (λ u. drawn_from d (n + 1 + length lines) u rest) none (λ all. drawn_append d (n + 1) later lines rest all))
 
@@ -156,6 +156,12 @@ drawn_append d n used (line ∷ lines) rest none =
 pub tried_enough : (d : Drawing) (before used : ℕ) (line : List ℕ) → used ≤ lines_budget before
     → tried d before used line ≡ d.answer line
 tried_enough d before used line enough =
+    let is : nat_lt (lines_budget before) used ≡ false = grind (arith, nat_tests) in
+    rw is refl
+
+pub cost_enough : (before used : ℕ) (answer : Result TextAnswer TextRefusal) → used ≤ lines_budget before
+    → cost_behind before used answer ≡ cost_drawn answer
+cost_enough before used answer enough =
     let is : nat_lt (lines_budget before) used ≡ false = grind (arith, nat_tests) in
     rw is refl
 
@@ -275,14 +281,18 @@ one_more d (Some text) (Some rest) (Some left) a b c x e number line used later 
 
 -- the drawing of the next line, which has an output
 pub is_drawn : (d : Drawing) (b c : Option (List ℕ)) (e : PrintedBehind) (number used : ℕ) (line : List ℕ)
-    (answer : TextAnswer) → tried d number used line ≡ Ok answer → Appends b c (d.to.shown (Some (number + 1)) answer.bytes)
+    (answer : TextAnswer) → used ≤ lines_budget number → d.answer line ≡ Ok answer
+    → Appends b c (d.to.shown (Some (number + 1)) answer.bytes)
     → PrintsBehind e.failed (record { before = e.before; after = e.after; failed = e.now }) (told_of (Some (number + 1)) answer)
     → IsNext d b c e number used line (used + answer.cost) None
-is_drawn d b c e number used line answer is out printed =
+is_drawn d b c e number used line answer enough answers out printed =
+    let is : tried d number used line ≡ Ok answer = tried_enough d number used line enough ∙ answers in
+    let cost = cost_enough number used (Ok answer) enough in
     let shown = d.to.shown (Some (number + 1)) answer.bytes in
     let told = told_of (Some (number + 1)) answer in
     let one : drawn_from d number used (line ∷ [])
-    ≡ record { bytes = shown ++ []; told = told ++ []; used = used + answer.cost; first = None; stop = None } = rw is refl in
+    ≡ record { bytes = shown ++ []; told = told ++ []; used = used + answer.cost; first = None; stop = None } =
+    rw (is, cost) refl in
     let bytes : (drawn_from d number used (line ∷ [])).bytes ≡ shown = ap (λ (l : LinesDrawn). l.bytes) one ∙ append-nil shown in
     let told_is : (drawn_from d number used (line ∷ [])).told ≡ told = ap (λ (l : LinesDrawn). l.told) one ∙ append-nil told in
     let first : (drawn_from d number used (line ∷ [])).first ≡ None = ap (λ (l : LinesDrawn). l.first) one in
@@ -299,10 +309,16 @@ pub is_passed_over : (d : Drawing) (b : Option (List ℕ)) (e : PrintedBehind) (
     (why : TextRefusal) (words : List ℕ) (next : TextsFault) → tried d number used line ≡ Err why
     → passing d.tells (number + 1) why ≡ Some words → (next.line ≡ Some (number + 1)) × (told next.refusal ≡ Some why)
     → PrintsBehind e.failed (record { before = e.before; after = e.after; failed = e.now }) words
-    → IsNext d b b e number used line (used + cost_refused why) (Some next)
+    → IsNext d b b e number used line (used + cost_behind number used (Err why)) (Some next)
 is_passed_over d b e number used line why words next is passes of printed =
     let one : drawn_from d number used (line ∷ [])
-    ≡ record { bytes = []; told = words ++ []; used = used + cost_refused why; first = Some (number + 1, why); stop = None } =
+    ≡ record {
+      bytes = [];
+      told = words ++ [];
+      used = used + cost_behind number used (Err why);
+      first = Some (number + 1, why);
+      stop = None;
+    } =
     rw (is, passes) refl in
     let bytes : (drawn_from d number used (line ∷ [])).bytes ≡ [] = ap (λ (l : LinesDrawn). l.bytes) one in
     let told_is : (drawn_from d number used (line ∷ [])).told ≡ words = ap (λ (l : LinesDrawn). l.told) one ∙ append-nil words in

@@ -5,3 +5,4 @@ pub mod DefectLines
 pub mod OneText
 pub mod FontLines
 pub mod FirstFaces
+mod SideDigits

@@ -1,5 +1,6 @@
 -- A refused line of a call that draws lines: the call passes over that line, or stops.
-use Rattle.std.proofs.Common.{◌≡◌, inl, inr, ℕ, ◌+◌, ◌≤◌, Bool, true, false, List, [], Option, Some, None, IfSome, Result, Err, ap, sym, subst, refl, ◌∙◌, append-nil}
+use Rattle.std.proofs.Common.{◌≡◌, inl, inr, ℕ, ◌+◌, ◌≤◌, Bool, true, false, nat_lt, if◌then◌else◌, List, [], Option, Some, None, IfSome, Result, Err, ap, sym, subst, refl, ◌∙◌, arith, append-nil}
+use Rattle.std.proofs.lemmas.Bool.Decides.{nat_tests}
 use Rattle.std.specs.Io.KnownBytes.{Appends, Keeps}
 use Rattle.std.specs.Prelude.{is_some}
 use Rattle.tt_core.specs.declared.fault.JobFault.{JobFault}
@@ -9,9 +10,9 @@ use Rattle.tt_render_texts.specs.declared.refusal.Refusal.{Refusal}
 use Rattle.tt_render_texts.specs.declared.refusal.Refusal.TheVariants as reason
 use Rattle.tt_render_texts.specs.declared.refusal.TextsFault.{TextsFault}
 use Rattle.tt_render_texts.specs.LineReading.{LosesFirst, LosesLine}
-use Rattle.tt_render_settings.specs.Lines.{Drawing, cost_refused, lines_budget, passing}
+use Rattle.tt_render_settings.specs.Lines.{Drawing, cost_behind, lines_budget, passing}
 use Rattle.tt_render_settings.specs.LinesDefects.{LineTells}
-use Rattle.tt_render_settings.specs.TextsOutcome.{IsNotBegun, LinesFail, SendsSome, StopsPassing, cost_told, earlier, goes_on, line_fault, refused_cost, telling, told}
+use Rattle.tt_render_settings.specs.TextsOutcome.{IsNotBegun, LinesFail, SendsSome, StopsPassing, earlier, goes_on, line_fault, refused_cost, telling, told}
 use Rattle.tt_render_texts.specs.streams.Traffic.{Traffic}
 use Rattle.tt_render_texts.specs.Printing.{Errors, PrintsBehind}
 use Rattle.tt_render_texts.specs.Answers.{TextAnswer}
@@ -42,17 +43,43 @@ undrawn d other why left after number used line same loses enough is r tells =
     let own : d.answer line ≡ Err r = subst (λ (answer : List ℕ → Result TextAnswer TextRefusal). answer line ≡ Err r) same refuses in
     answer_refused d left after number used line r loses enough own
 
+-- what the lines took, behind one more that is refused
+abbrev pub TakesFor : ℕ → ℕ → Refusal → ℕ → Type 0
+TakesFor number used why later = (r : TextRefusal) → told why ≡ Some r → used + cost_behind number used (Err r) ≡ later
+
+-- nothing more behind a line that is not begun
+adds_none : (n : ℕ) (b : Bool) → n + (if b then 0 else 0) ≡ n
+adds_none n true = omega arith
+adds_none n false = omega arith
+
+pub takes_none : (number used : ℕ) (why : JobFault) (left : Option (List ℕ)) → IsNotBegun number used why left
+    → TakesFor number used (reason.Job why) used
+takes_none number used why left (inl (is, long)) r tells =
+    let same : refused (job why) ≡ r = cc in
+    rw (← same, is) (adds_none used (nat_lt (lines_budget number) used))
+takes_none number used why left (inr (is, spent, has)) r tells =
+    let over : nat_lt (lines_budget number) used ≡ true = grind (arith, nat_tests) in
+    let plain : used + 0 ≡ used = omega arith in
+    rw over plain
+
+-- what its refusal says, behind one that was begun
+pub takes_refused : (number used : ℕ) (why : Refusal) → used ≤ lines_budget number
+    → TakesFor number used why (used + refused_cost why)
+takes_refused number used why enough r tells =
+    let is : nat_lt (lines_budget number) used ≡ false = grind (arith, nat_tests) in
+    rw (is, tells) refl
+
 -- the line is told, and passed over
 pub passed_on : (d : Drawing) (keeps : Bool) (words : TextsFault → List ℕ) (text left after a b x : Option (List ℕ))
-    (e : PrintedBehind) (number used : ℕ) (first : Option TextsFault) (why : Refusal)
+    (e : PrintedBehind) (number used later : ℕ) (first : Option TextsFault) (why : Refusal)
     → d.tells ≡ telling keeps (tells_by words) → goes_on keeps why ≡ true
     → SoFar d text left a b (record { before = x; after = e.before; failed = e.failed }) number used first
-    → LosesFirst left after → IsRefusedFor d number used why left
+    → LosesFirst left after → IsRefusedFor d number used why left → TakesFor number used why later
     → PrintsBehind e.failed (record { before = e.before; after = e.after; failed = e.now })
     (words (record { line = Some (number + 1); refusal = why }))
-    → SoFar d text after a b (record { before = x; after = e.after; failed = e.now }) (number + 1) (used + refused_cost why)
+    → SoFar d text after a b (record { before = x; after = e.after; failed = e.now }) (number + 1) later
     (earlier first (Some (record { line = Some (number + 1); refusal = why })))
-passed_on d keeps words text left after a b x e number used first why tells goes so_far loses begins printed =
+passed_on d keeps words text left after a b x e number used later first why tells goes so_far loses begins takes printed =
     let p : IsPassedFor keeps (tells_by words) (number + 1) why = passes_for keeps (tells_by words) (number + 1) why goes in
     let told_so : PrintsBehind e.failed (record { before = e.before; after = e.after; failed = e.now })
     (tells_by words (number + 1) p.refusal) =
@@ -60,9 +87,8 @@ passed_on d keeps words text left after a b x e number used first why tells goes
     let passed = one_passed d text left after a b x e number used first (record { line = Some (number + 1); refusal = why }) p.refusal
     (tells_by words (number + 1) p.refusal) so_far loses (begins p.refusal p.tells)
     (subst (λ o. passing o (number + 1) p.refusal ≡ Some (tells_by words (number + 1) p.refusal)) (sym tells) p.passes) (refl, p.tells) told_so in
-    let cost : used + cost_refused p.refusal ≡ used + refused_cost why = ap (λ o. used + cost_told o) (sym p.tells) in
     subst (λ (n : ℕ). SoFar d text after a b (record { before = x; after = e.after; failed = e.now }) (number + 1) n
-    (earlier first (Some (record { line = Some (number + 1); refusal = why })))) cost passed
+    (earlier first (Some (record { line = Some (number + 1); refusal = why })))) (takes p.refusal p.tells) passed
 
 -- only where this was asked for
 pub passes_asked : (d : Drawing) (keeps : Bool) (tell : ℕ → TextRefusal → List ℕ) (why : Refusal)

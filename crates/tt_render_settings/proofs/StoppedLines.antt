@@ -10,7 +10,7 @@ use Rattle.tt_render_texts.specs.declared.refusal.Refusal.{Refusal}
 use Rattle.tt_render_texts.specs.declared.refusal.Refusal.TheVariants as reason
 use Rattle.tt_render_texts.specs.declared.refusal.TextsFault.{TextsFault}
 use Rattle.tt_render_texts.specs.LineReading.{LosesFirst, LosesLine}
-use Rattle.tt_render_settings.specs.Lines.{Drawing, cost_refused, drawn_from, lines_budget, passing, tried}
+use Rattle.tt_render_settings.specs.Lines.{Drawing, cost_behind, drawn_from, lines_budget, passing, tried}
 use Rattle.tt_render_texts.specs.Lines.{line_limit, lines_of}
 use Rattle.tt_render_settings.specs.TextsOutcome.{BeginsDrawn, FailsByStop, FindsLine, HasLine, IsCut, IsNotBegun, IsOfText, LinesFail, MakesNoPlace, SendsDrawn, SendsFirstLines, SendsFront, StopsAtLine, earlier, goes_on, line_fault, telling, told}
 use Rattle.tt_render_texts.specs.streams.Traffic.{Traffic}
@@ -215,14 +215,14 @@ pub one_passed : (d : Drawing) (text left after a b x : Option (List ℕ)) (e : 
     → LosesFirst left after → IsRefused d number used why left → passing d.tells (number + 1) why ≡ Some words
     → (next.line ≡ Some (number + 1)) × (told next.refusal ≡ Some why)
     → PrintsBehind e.failed (record { before = e.before; after = e.after; failed = e.now }) words
-    → SoFar d text after a b (record { before = x; after = e.after; failed = e.now }) (number + 1) (used + cost_refused why)
-    (earlier first (Some next))
+    → SoFar d text after a b (record { before = x; after = e.after; failed = e.now }) (number + 1)
+    (used + cost_behind number used (Err why)) (earlier first (Some next))
 one_passed d text left after a b x e number used first next why words so_far loses begins passes of printed =
-    one_more d text left after a b b x e number loses.0 used (used + cost_refused why) first (Some next) so_far loses.1
+    one_more d text left after a b b x e number loses.0 used (used + cost_behind number used (Err why)) first (Some next) so_far loses.1
     (own left after loses.1 begins)
   where
     own : (left after : Option (List ℕ)) → LosesLine left after loses.0 → IsRefused d number used why left
-        → IfSome left (λ rest. IsNext d b b e number used loses.0 (used + cost_refused why) (Some next))
+        → IfSome left (λ rest. IsNext d b b e number used loses.0 (used + cost_behind number used (Err why)) (Some next))
     own None after lost begins = tt
     own (Some rest) None lost begins = absurd lost
     own (Some rest) (Some more) lost begins =

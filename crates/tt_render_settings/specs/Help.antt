@@ -48,6 +48,7 @@ job_help number job.EmptyPicture a = []
 abbrev pub space_words : Space → List ℕ
 space_words space.Free = []
 space_words (space.Width width) = decimal width
+space_words (space.Box b) = decimal b.width ++ (codes "x" ++ decimal b.height)
 
 -- the line about a refused space
 abbrev pub space_help : Option ℕ → SpaceFault → Space → List ℕ
@@ -90,6 +91,16 @@ a_width : space_help None fault.WidthRange (space.Width 20)
     ≡ codes "tt_render: --width is 1 to 16384 pixels and more than both margins, not 20\n"
 unfolding digits
 a_width = refl
+
+a_box : space_help None fault.BoxRange (space.Box (record { width = 0; height = 5 }))
+    ≡ codes "tt_render: --box is 1x1 to 16384x4096 pixels and more than both margins, not 0x5\n"
+unfolding digits
+a_box = refl
+
+a_small_box : space_help (Some 2) fault.BoxSmall (space.Box (record { width = 4; height = 2 }))
+    ≡ codes "tt_render: line 2: the text fits into this box at no size\n"
+unfolding digits
+a_small_box = refl
 
 the_second_line : fixed_help (Some 2) (codes "the lines have to be UTF-8; iconv(1) changes other encodings")
     ≡ codes "tt_render: line 2: the lines have to be UTF-8; iconv(1) changes other encodings\n"

@@ -4,6 +4,7 @@ pub mod LinesDefects
 pub mod MeasureText
 pub mod Products
 pub mod Settings
+pub mod Sides
 pub mod Spaces
 pub mod Texts
 pub mod TextsOutcome

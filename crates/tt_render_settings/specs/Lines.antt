@@ -52,7 +52,7 @@ abbrev pub lines_budget : ℕ → ℕ
 lines_budget before = 10000000 + 4000000 * before
 
 -- what a refused line takes of this budget: as much as a line takes at most that is drawn, where its glyphs are too much
--- work, or where the lines before it took too much; else nothing
+-- work; else nothing
 abbrev pub cost_refused : TextRefusal → ℕ
 cost_refused (refused (job fault.WorkLarge)) = 52000000
 cost_refused why = 0
@@ -61,6 +61,10 @@ cost_refused why = 0
 abbrev pub cost_drawn : Result TextAnswer TextRefusal → ℕ
 cost_drawn (Ok a) = a.cost
 cost_drawn (Err why) = cost_refused why
+
+-- the same behind lines that took this much: nothing, where they took more than the budget
+abbrev pub cost_behind : ℕ → ℕ → Result TextAnswer TextRefusal → ℕ
+cost_behind before used answer = if nat_lt (lines_budget before) used then 0 else cost_drawn answer
 
 -- the answer of a line behind others, which took this much. No line is drawn where they took more than the budget
 abbrev pub tried : Drawing → ℕ → ℕ → List ℕ → Result TextAnswer TextRefusal
@@ -108,7 +112,7 @@ abbrev pub drawn_from : Drawing → ℕ → ℕ → List (List ℕ) → LinesDra
 drawn_from d before used [] = record { bytes = []; told = []; used = used; first = None; stop = None }
 drawn_from d before used (line ∷ lines) =
     drawn_with d (before + 1) used (tried d before used line)
-    (drawn_from d (before + 1) (used + cost_drawn (tried d before used line)) lines)
+    (drawn_from d (before + 1) (used + cost_behind before used (tried d before used line)) lines)
 
 -- the drawing of a text's lines
 abbrev pub text_drawn : Drawing → List ℕ → LinesDrawn
@@ -170,11 +174,30 @@ behind_dear_lines : map (λ used. tried (letters None) 1 used (codes "B")) (1400
 unfolding letters
 behind_dear_lines = refl
 
--- lines that took more than the budget leave nothing to the later ones
-none_behind_a_spent_budget : (drawn_from (letters (Some (λ number why. codes "!"))) 1 14000001 (codes "A" ∷ (codes "B" ∷ [])))
-    ≡ record { bytes = []; told = codes "!!"; used = 118000001; first = Some (2, refused (job fault.WorkLarge)); stop = None }
-unfolding letters
-none_behind_a_spent_budget = refl
+-- a line behind a spent budget takes nothing, so the next one is drawn
+one_behind_a_spent_budget : (drawn_from (letters (Some (λ number why. codes "!"))) 1 14000001 (codes "A" ∷ (codes "B" ∷ [])))
+    ≡ record {
+      bytes = codes "B";
+      told = codes "!tt_render: line 3: U+0042 has no glyph\n";
+      used = 21000001;
+      first = Some (2, refused (job fault.WorkLarge));
+      stop = None;
+    }
+unfolding letters report_text_of digits
+one_behind_a_spent_budget = refl
+
+-- a line that is too much work by itself takes 52,000,000, and the later ones are refused until their shares have paid
+by_itself : Result TextAnswer TextRefusal
+by_itself = Err (refused (job fault.WorkLarge))
+
+taken_by_itself : map (λ used. cost_behind 1 used by_itself) (14000000 ∷ 14000001 ∷ []) ≡ 52000000 ∷ 0 ∷ []
+unfolding by_itself
+taken_by_itself = refl
+
+refused_until_paid : map (λ before. tried (letters None) before 52000000 (codes "B")) (10 ∷ 11 ∷ [])
+    ≡ by_itself ∷ Ok (record { bytes = codes "B"; unfitted = []; lacking = codes "B"; cost = 7000000; label = None }) ∷ []
+unfolding letters by_itself
+refused_until_paid = refl
 
 -- a line that is not UTF-8 takes nothing
 some_lines_take_nothing : cost_drawn (Err not_utf8) ≡ 0

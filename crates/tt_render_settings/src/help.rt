@@ -74,6 +74,11 @@ fn space_words(alloc: Global, space: Space) -> Result<String, AllocError>
     match space {
         Space::Free => Ok(String::new(alloc)),
         Space::Width(width) => format!(in alloc; "{width}"),
+        Space::Box(sides) => {
+            let width = sides.width;
+            let height = sides.height;
+            format!(in alloc; "{width}x{height}")
+        }
     }
 }
 

@@ -10,6 +10,7 @@ use tt_render_texts::{PictureFormat, TextsFault};
 #[derive(Clone, Copy)]
 pub struct Label<'a> {
     /// The picture is that of all lines, enlarged so that no ink is cut, but for that at the sides of a given width: the fields `grow` and `product` are not used.
+    /// In a box `ppem` is the greatest size to try.
     /// `most` is the limit of glyphs that are cached from label to label.
     pub setting: Setting,
     /// The side at which the lines begin or end.

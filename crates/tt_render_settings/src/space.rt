@@ -1,13 +1,14 @@
 //! The space that a label has to have, and its tests.
 
-ghost use Rattle.std.specs.Prelude.{◌≡◌, IfOk};
+ghost use Rattle.std.specs.Prelude.{◌≡◌, IfOk, option_map};
 ghost use Rattle.tt_core.specs.Outcomes.{Gives};
-ghost use Rattle.tt_render_settings.specs.Spaces.{HasMargin, given_space, refused_space, space_asked, space_tested, width_tested};
+ghost use Rattle.tt_render_settings.specs.Spaces.{HasMargin, box_asked, box_tested, given_space, refused_space, space_asked, space_tested, width_tested};
 
-use crate::given::{GivenSpace, GivenWidth};
+use crate::given::{GivenBox, GivenSpace, GivenWidth};
 use crate::label::Label;
 use crate::setting::test_setting;
-use tt_core::WIDTH_LIMIT;
+use crate::sides::BoxSides;
+use tt_core::{HEIGHT_LIMIT, MARGIN_LIMIT, WIDTH_LIMIT};
 use tt_render_texts::SpaceFault;
 
 /// The space that a label has to have.
@@ -17,16 +18,30 @@ pub enum Space {
     Free,
     /// So many columns. Longer lines are broken into rows.
     Width(u32),
+    /// A box, which the text fills at the greatest size that fits.
+    Box(BoxSides),
+}
+
+/// The box of some words, if they are of the right form.
+fn box_asked(words: &str) -> Option<Space>
+    ensures { result ≡ box_asked words.now }
+{
+    let sides = BoxSides::read(words)?;
+    Some(Space::Box(sides))
 }
 
 impl Space {
-    /// The space by an option, if the option is there.
-    pub fn asked(width: Option<u32>) -> Space
-        ensures { result ≡ space_asked width }
+    /// The space by the options of a width and of a box, of which the command line has one at most. None: the words of the
+    /// box are of another form.
+    pub fn asked(width: Option<u32>, boxed: Option<&str>) -> Option<Space>
+        ensures { result ≡ space_asked width (option_map (λ s. s.now) boxed.entry) }
     {
-        match width {
-            None => Space::Free,
-            Some(width) => Space::Width(width),
+        match boxed {
+            Some(words) => box_asked(words),
+            None => match width {
+                Some(width) => Some(Space::Width(width)),
+                None => Some(Space::Free),
+            },
         }
     }
 }
@@ -43,7 +58,27 @@ fn given_width(width: u32, margin: u32) -> Result<GivenWidth, SpaceFault>
     Ok(GivenWidth { width, margin })
 }
 
-/// Tests the space of a label. Error: WidthRange, of a width that is not more than both margins, or above 16,384.
+/// A box, if each side is more than both margins, which are at most 64, and the box is at most 16,384 by 4,096. Error:
+/// BoxRange.
+fn given_box(sides: BoxSides, margin: u32) -> Result<GivenBox, SpaceFault>
+    ensures exact { Gives (λ g. tt {0}) result (box_tested sides margin) }
+    ensures sides { IfOk result (λ g. g.sides ≡ sides) }
+    ensures margin { IfOk result (λ g. g.margin ≡ margin) }
+{
+    if margin > MARGIN_LIMIT {
+        return Err(SpaceFault::BoxRange);
+    }
+    if sides.width <= 2 * margin || sides.width > WIDTH_LIMIT {
+        return Err(SpaceFault::BoxRange);
+    }
+    if sides.height <= 2 * margin || sides.height > HEIGHT_LIMIT {
+        return Err(SpaceFault::BoxRange);
+    }
+    Ok(GivenBox { sides, margin })
+}
+
+/// Tests the space of a label. Errors: WidthRange, of a width that is not more than both margins, or above 16,384; BoxRange,
+/// of a box with such a side, or above 16,384 by 4,096.
 pub fn test_space(asked: &Label) -> Result<GivenSpace, SpaceFault>
     ensures exact { Gives (λ u. tt {0}) result (space_tested asked.now.space asked.now.setting.margin) }
     ensures given { IfOk result (λ g. given_space g ≡ asked.now.space) }
@@ -55,6 +90,10 @@ pub fn test_space(asked: &Label) -> Result<GivenSpace, SpaceFault>
         Space::Width(width) => {
             let given = given_width(width, margin)?;
             Ok(GivenSpace::Width(given))
+        }
+        Space::Box(sides) => {
+            let given = given_box(sides, margin)?;
+            Ok(GivenSpace::Box(given))
         }
     }
 }

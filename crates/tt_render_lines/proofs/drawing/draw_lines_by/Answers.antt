@@ -13,8 +13,8 @@ use Rattle.tt_render_streams.specs.Traffic.{traffic_of}
 use Rattle.tt_render_texts.specs.Printing.{errors_of}
 use Rattle.tt_render_settings.specs.TextsOutcome.{earlier, line_told, lines_drawing, refusal_font_fault, refused_cost}
 use Rattle.tt_render_settings.proofs.DefectLines.{next_tells, stop_tells}
-use Rattle.tt_render_settings.proofs.DrawnLines.{PrintedBehind, all_drawn, drawn_alike, drawn_too, earlier_none, is_drawn, kept_alone, long_line, many_sent, none_so_far, one_more, reader_at_end, same_most, some_sent, tried_enough, whole_text}
-use Rattle.tt_render_settings.proofs.PassedOver.{goes_keeps, passed_on, passes_asked, refused_stops, tells_asked, tells_passing, unbegun, undrawn}
+use Rattle.tt_render_settings.proofs.DrawnLines.{PrintedBehind, all_drawn, drawn_alike, drawn_too, earlier_none, is_drawn, kept_alone, long_line, many_sent, none_so_far, one_more, reader_at_end, same_most, some_sent, whole_text}
+use Rattle.tt_render_settings.proofs.PassedOver.{goes_keeps, passed_on, passes_asked, refused_stops, takes_none, takes_refused, tells_asked, tells_passing, unbegun, undrawn}
 use Rattle.tt_render_settings.proofs.StoppedLines.{stopped_before, stopped_for, stopped_in}
 use Rattle.tt_render_lines.proofs.SentTexts.{if_some_all, line_cut}
 use Rattle.tt_render_texts.proofs.Printed.{keeps_itself}
@@ -108,17 +108,17 @@ loop-before-preserved-in-Ok-Refused g c =
     c.in-Ok-Refused.why found.0 in
     let passed = rw c.texts_fault-fault.ensures at c.in_ok-first-in-Ok-Refused.ensures in
     let goes = passed.goes in
-    let cost : c.refused_cost-cost.result ≡ refused_cost why = c.refused_cost-cost.ensures.exact in
     record {
       strike = so_far.strike;
       reads = c.in-Ok-Refused.ensures.failure;
-      few = omega (arith, so_far.few, c.refused_cost-cost.ensures.bound);
+      few = omega (arith, so_far.few);
       writes = so_far.writes;
       passes = λ none. absurd (passes_asked d keeps line_told why refl goes none);
-      so_far = rw (passed.first, cost) (passed_on d keeps (λ fault. texts_line_of fault ++ codes "\n") (left c.args.lines.now) rest after
+      so_far = rw passed.first (passed_on d keeps (λ fault. texts_line_of fault ++ codes "\n") (left c.args.lines.now) rest after
           (g.W.Sink.written c.args.out.now) (g.W.Sink.written c.loop-before.out) (told c.args.error.now)
           (record { before = told c.loop-before.error; after = told c.pass.new.error; failed = failed c.loop-before.error; now = failed c.pass.new.error })
-          c.loop-before.before c.loop-before.used c.loop-before.first why refl goes so_far.so_far (found.1 (goes_keeps keeps why goes)) begins passed.told);
+          c.loop-before.before c.loop-before.used c.loop-before.used c.loop-before.first why refl goes so_far.so_far (found.1 (goes_keeps keeps why goes)) begins
+          (takes_none c.loop-before.before c.loop-before.used c.in-Ok-Refused.why rest found.0) passed.told);
     }
 
 pub returns-in-Err-clause-outcome : goal.returns-in-Err-clause-outcome
@@ -215,19 +215,19 @@ loop-before-preserved-in-Err-draw_line g c =
     same found.0 found.2 is in
     let passed = rw c.texts_fault-fault-in-Err-draw_line.ensures at c.in_ok-first-in-Err-draw_line.ensures in
     let goes = passed.goes in
-    let cost : c.refused_cost-cost-in-Err-draw_line.result ≡ refused_cost why = c.refused_cost-cost-in-Err-draw_line.ensures.exact in
+    let cost : c.refused_cost-cost.result ≡ refused_cost why = c.refused_cost-cost.ensures.exact in
     record {
       strike = kept_alone c.args.strike.now c.loop-before.strike c.draw_line.new.strike so_far.strike
           c.in-Err-draw_line.ensures.same;
       reads = c.in-Ok-Line.ensures.failure;
-      few = omega (arith, so_far.few, c.refused_cost-cost-in-Err-draw_line.ensures.bound);
+      few = omega (arith, so_far.few, c.refused_cost-cost.ensures.bound);
       writes = so_far.writes;
       passes = λ none. absurd (passes_asked d keeps line_told why refl goes none);
       so_far = rw (passed.first, cost) (passed_on d keeps (λ fault. texts_line_of fault ++ codes "\n") (left c.args.lines.now) rest after
           (g.W.Sink.written c.args.out.now) (g.W.Sink.written c.loop-before.out) (told c.args.error.now)
           (record { before = told c.loop-before.error; after = told c.pass-in-Err-draw_line.new.error; failed = failed c.loop-before.error; now = failed c.pass-in-Err-draw_line.new.error })
-          c.loop-before.before c.loop-before.used c.loop-before.first why refl goes so_far.so_far (line, found.0) begins
-          passed.told);
+          c.loop-before.before c.loop-before.used (c.loop-before.used + refused_cost why) c.loop-before.first why refl goes so_far.so_far (line, found.0) begins
+          (takes_refused c.loop-before.before c.loop-before.used why found.2) passed.told);
     }
 
 pub returns-in_err-send-clause-outcome : goal.returns-in_err-send-clause-outcome
@@ -276,7 +276,7 @@ loop-before-preserved g c =
     let sent = c.in_ok-send.ensures in
     let behind : PrintedBehind = record { before = told c.loop-before.error; after = told c.send.new.error; failed = failed c.loop-before.error; now = failed c.send.new.error } in
     let own = is_drawn d (written c.loop-before.out) (written c.send.new.out) behind c.loop-before.before c.loop-before.used
-    line answer (tried_enough d c.loop-before.before c.loop-before.used line found.2 ∙ is) sent.all sent.told in
+    line answer found.2 is sent.all sent.told in
     let used : c.loop-before.used + answer.cost ≡ c.loop-before.used + c.from-used.result =
     omega (arith, c.from-used.ensures, c.cost.ensures) in
     let kept : earlier c.loop-before.first None ≡ c.loop-before.first = earlier_none c.loop-before.first in
