@@ -1,2 +1,3 @@
-pub mod Requests
+pub mod LabelLaws
 pub mod Labels
+pub mod Requests
