@@ -96,7 +96,7 @@ fn text_of(stop: Stop) -> &'static str
         Stop::Shown | Stop::Unread => "",
         Stop::NotShown => "tt_render: cannot write the help\n",
         Stop::NoText => "tt_render: the command line is not UTF-8\n",
-        Stop::Incomplete => "tt_render: the command line is incomplete\n",
+        Stop::Incomplete => "tt_render: the command line is incomplete; --box is WxH, as 384x120\n",
         Stop::Range => "tt_render: --range is hexadecimal, as 20-7E,A0-FF\n",
         Stop::Unnumbered => "tt_render: with --lines the FILE of -o has %d once, as label-%d.png\n",
         Stop::OneStream => "tt_render: --png with --lines goes with -o, as -o label-%d.png\n",
