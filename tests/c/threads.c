@@ -16,8 +16,8 @@ static struct room font;
 static struct room *texts;
 static size_t texts_count;
 
-/* What a thread does: `turns` times pictures, measures and labels of all texts with all ways to fit, in its own room. `sum` is of all that
- * it got, and `wrong` says how many calls were not done. */
+/* What a thread does: `turns` times pictures, measures and labels of all texts with all ways to fit, in its own room.
+ * `sum` is of all that it got, and `wrong` says how many calls were not done. */
 struct work {
   unsigned turns, wrong;
   uint64_t sum;
@@ -31,6 +31,15 @@ static uint64_t added(uint64_t sum, const void *bytes, size_t count) {
   return sum;
 }
 
+static void label_once(struct work *work, struct room text, const struct tt_label_job *job) {
+  struct tt_label told;
+  struct tt_answer answer;
+  if (tt_label(font.at, font.size, text.at, text.size, job, work->rows, sizeof work->rows, &told, &answer) != TT_DONE) {
+    work->wrong++;
+  }
+  work->sum = added(added(work->sum, &told, sizeof told), work->rows, answer.bytes);
+}
+
 static void draw_once(struct work *work, struct room text, const struct tt_job *job) {
   struct tt_picture told;
   struct tt_measure measure;
@@ -41,13 +50,10 @@ static void draw_once(struct work *work, struct room text, const struct tt_job *
   work->sum = added(added(work->sum, &told, sizeof told), work->rows, answer.bytes);
   if (tt_measure(font.at, font.size, text.at, text.size, job, &measure, &answer) != TT_DONE) work->wrong++;
   work->sum = added(work->sum, &measure, sizeof measure);
-  struct tt_label label;
-  struct tt_label_job label_job = {.size = job->size, .margin = job->margin, .fit = job->fit, .width = 20 * job->grow};
-  if (tt_label(font.at, font.size, text.at, text.size, &label_job, work->rows, sizeof work->rows, &label, &answer) !=
-      TT_DONE) {
-    work->wrong++;
-  }
-  work->sum = added(added(work->sum, &label, sizeof label), work->rows, answer.bytes);
+  struct tt_label_job label = {.size = job->size, .margin = job->margin, .fit = job->fit, .width = 20 * job->grow};
+  struct tt_label_job box = {.size = job->size, .fit = job->fit, .box_width = 90, .box_height = 60};
+  label_once(work, text, &label);
+  label_once(work, text, &box);
 }
 
 static void *draw_all(void *given) {
