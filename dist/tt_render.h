@@ -29,8 +29,8 @@
  * file may be a collection of faces, and more formats and kinds of cmap are read: formats 0, 6, 10 and 13, symbol
  * fonts, Macintosh Roman. Where a font is accepted strictly, a text without variation selectors has the same glyphs
  * widely. tt_open and tt_map read strictly, as do tt_open_face, tt_map_face and a job where their face is 0, except that
- * a job with TT_BEST then reads face 0 widely. A face of n + 1 reads face n widely. Faces are numbered from 0, in the
- * order of the file; a file that is no collection has face 0 alone.
+ * a job with TT_BEST then reads face 0 widely. A face of n + 1 reads face n widely. tt_label reads widely: 0 is face 0
+ * too. Faces are numbered from 0, in the order of the file; a file that is no collection has face 0 alone.
  *
  * A unit of a text is a character. Read widely, a variation selector (U+FE00 to U+FE0F, U+E0100 to U+E01EF) is part of
  * the unit of the character before it, and chooses that unit's glyph where the font says so. Every other selector is
@@ -42,6 +42,12 @@
  * enlarged picture follows: a picture that is empty before it is enlarged is refused (62). The room comes last. Of
  * these, tt_layout and tt_pens report nothing of the crossings. Without TT_BEST they report nothing that follows the
  * picture's size but the room, since they look at no glyph.
+ *
+ * tt_label reports the alignment (72) after the way to fit, and the box (70) and the width (69) after the margin. Then it
+ * reports what tt_draw does with grow, but never an empty picture (62). With a width the picture's size comes after the
+ * glyphs, whatever the way to fit, and again after the crossings, of the picture with rows for its ink. With a box it
+ * reports the glyphs of one size after the other, from the greatest down, and where rows fit their crossings. Before a
+ * size comes the work of the sizes before it (65), and after the last a text that fits at no size (71).
  *
  * tt_glyphs reports too small a room for its entries before all else. Then it reports the way to fit, the size, and the
  * count (61); the font's size, the place of the face, its tables; loca and glyf, the font's programs, the points, the
@@ -56,13 +62,14 @@
  * tt_draw TT_NOT_UTF8. tt_lines_room reports the same, but looks at no room.
  *
  * Cost: tt_faces, tt_open and tt_map, with a face too, and tt_strike read tables alone. So do tt_layout and tt_pens
- * without TT_BEST; with TT_BEST they cost what tt_measure does, less the ink. tt_measure, tt_characters, tt_draw and
- * tt_draw_band each run the font's first two programs and fit all glyphs of the text: with hinting mostly some million
- * instructions. This is so even where the room is too small. tt_glyphs runs the two programs once and fits each glyph
- * of its list once, also where the room for the rows is too small: a list costs what a text of its glyphs does.
- * tt_draw_lines runs the two programs once, and fits no glyph that is cached: a label of 16 letters then takes some
- * 30,000 instructions. tt_lines_room costs the same, less the rows. With keep 0 each line fits its glyphs anew, for up
- * to a million instructions. With kern a call reads at most 10,000 numbers of GPOS and kern when it opens the font.
+ * without TT_BEST; with TT_BEST they cost what tt_measure does, less the ink. tt_measure, tt_characters, tt_draw,
+ * tt_draw_band and tt_label each run the font's first two programs and fit all glyphs of the text: with hinting mostly
+ * some million instructions. This is so even where the room is too small. With a box tt_label does so for each size
+ * that it tries: for a text that is far smaller than its box some hundred times. tt_glyphs runs the two programs once and
+ * fits each glyph of its list once, also where the room for the rows is too small: a list costs what a text of its glyphs
+ * does. tt_draw_lines runs the two programs once, and fits no glyph that is cached: a label of 16 letters then takes
+ * some 30,000 instructions. tt_lines_room costs the same, less the rows. With keep 0 each line fits its glyphs anew, for
+ * up to a million instructions. With kern a call reads at most 10,000 numbers of GPOS and kern when it opens the font.
  * For each pair of neighbouring glyphs it reads at most 5,120 numbers, up to three times; real fonts need some 50.
  */
 #ifndef TT_RENDER_H
@@ -147,6 +154,41 @@ struct tt_job {
     uint32_t blank;   /* not 0: a line of tt_draw_lines without a byte is blank, and never refused */
 };
 
+/* Where the shorter lines of a label stand, for a label job's align. */
+enum {
+    TT_LEFT = 0,
+    TT_CENTRE = 1, /* between two columns, in the left one */
+    TT_RIGHT = 2
+};
+
+/*
+ * A request to draw a label. size, margin, fit, kern and rounded are as in tt_job.
+ *
+ * Where width, box_width and box_height are 0, the picture is as large as its lines with their margins, and enlarged on
+ * each side as with grow.
+ *
+ * With a width the picture has exactly width columns. Each line is broken into rows, which fit between the margins: at
+ * blanks, after hyphens, after U+200B and between ideographs; a word that is wider alone is broken within. Blanks at the
+ * end of a row are not drawn. The rows stand between the margins by align. The picture is enlarged above and below so
+ * that no ink is cut there. Ink past the sides is cut.
+ *
+ * With a box the picture has exactly box_width columns and box_height rows, and the text has the greatest size of at most
+ * size at which it fits: rows are broken as with a width, but no word is, all rows fit between the margins, and no ink is
+ * cut. Ink may stand in the margins. The rows stand in the middle. No size below 5 is tried, unless size is.
+ */
+struct tt_label_job {
+    uint32_t size;       /* pixels per em, 1 to 300; with a box the greatest that is tried */
+    uint32_t margin;     /* pixels round the lines, 0 to 64 */
+    uint32_t fit;        /* TT_FULL .. TT_BEST */
+    uint32_t face;       /* n + 1: face n. 0: face 0 */
+    uint32_t kern;       /* not 0: pairs of neighbouring glyphs are kerned */
+    uint32_t rounded;    /* not 0: rise and depth are each rounded to the nearest row, so that box drawing joins */
+    uint32_t align;      /* TT_LEFT .. TT_RIGHT */
+    uint32_t width;      /* 0, or the columns of the picture: more than both margins, at most 16,384 */
+    uint32_t box_width;  /* 0, or the columns of a box: more than both margins, at most 16,384; then width is 0 */
+    uint32_t box_height; /* 0, or the rows of a box: more than both margins, at most 4,096 */
+};
+
 /* A picture without its pixels. All is 0 for a blank line. */
 struct tt_picture {
     uint32_t width;     /* pixels in a row, 1 to 16,384 */
@@ -154,6 +196,15 @@ struct tt_picture {
     uint64_t row_bytes; /* (width + 7) / 8 */
     int64_t baseline;   /* rows above the base line, which may lie outside the picture */
     uint64_t unfitted;  /* the distinct glyphs drawn unfitted although the job requests fitting */
+};
+
+/* A label without its pixels. */
+struct tt_label {
+    struct tt_picture picture; /* with the base line of the first row */
+    uint64_t size;             /* the size that was drawn, in pixels per em: the job's, or with a box at most that */
+    uint64_t cut_left;         /* columns of ink that were cut at the left; 0 where the job's width is 0 */
+    uint64_t cut_right;        /* the same at the right */
+    uint64_t missing;          /* the distinct characters without a glyph, once letters are composed */
 };
 
 /* A box of pixels; all four sides are included. */
@@ -347,6 +398,21 @@ uint32_t tt_draw_band(const uint8_t *font, size_t font_bytes, const uint8_t *tex
                       struct tt_picture *told, struct tt_answer *answer);
 
 /*
+ * Draws a label: a text of several lines in one picture, for people. This is the picture that the program's command
+ * label writes for this font, text and job. rows and room, bytes and count are as those of tt_draw.
+ *
+ * A line feed ends a line, and a carriage return just before it is no part of the line. A first U+FEFF is no part of the
+ * text. A text without a character is one empty line. A picture has at least one column and one row, so that no text is
+ * empty. From one base line to the next are step rows, as tt_strike tells them for the size that was drawn.
+ *
+ * Two characters beside each other that are the canonical composition of one that the font has are drawn as that one, a
+ * letter and its accent for instance. Nothing is reordered. The text's 4,096 characters are counted before.
+ */
+uint32_t tt_label(const uint8_t *font, size_t font_bytes, const uint8_t *text, size_t text_bytes,
+                  const struct tt_label_job *job, uint8_t *rows, size_t room, struct tt_label *told,
+                  struct tt_answer *answer);
+
+/*
  * Draws lines one after the other, each as tt_draw does. The font is opened once and its programs run once. Between
  * lines at most keep bytes of glyphs are cached; 1 << 20 is enough for most fonts. With TT_BEST a cached glyph takes its
  * cost from each line's budget again, so that a line is drawn or refused as by tt_draw.
@@ -423,6 +489,10 @@ uint32_t tt_message(const struct tt_answer *told, uint8_t *text, size_t room, st
 /*
  * All refusals: X(number, name). From 60 on they refuse the job; the man page of the program explains each.
  *
+ * 69 to 72 come with tt_label alone. 69 WidthRange: the width is above 16,384, or at most both margins. 70 BoxRange: the
+ * box has more than 16,384 columns or 4,096 rows, or at most both margins of either, or there is a width too. 71 BoxSmall:
+ * the text fits into the box at no size. 72 UnknownAlign: align has another number.
+ *
  * 68 GlyphNumber comes in an entry of tt_glyphs alone. For a list of glyphs 65 counts as for a line, but for each glyph
  * once, with the rows of a picture that holds all of it.
  *
@@ -436,7 +506,8 @@ uint32_t tt_message(const struct tt_answer *told, uint8_t *text, size_t room, st
  *     then count one. The work allows 500,000, and one for each 4 units that points and programs leave of 50,000,000. A
  *     point takes 40 units.
  *   - Lines of tt_draw_lines: those before this one took more than 10,000,000 units, and 4,000,000 for each of them. A
- *     line takes the units of its points and programs, and 4 units for each crossing.
+ *     line takes the units of its points and programs, and 4 units for each crossing. The sizes that tt_label tries for a
+ *     box are counted as such lines are.
  */
 #define TT_REFUSALS(X) \
     X(1, BadVersion) \
@@ -497,7 +568,11 @@ uint32_t tt_message(const struct tt_answer *told, uint8_t *text, size_t room, st
     X(65, WorkLarge) \
     X(66, UnknownFit) \
     X(67, LineEnds) \
-    X(68, GlyphNumber)
+    X(68, GlyphNumber) \
+    X(69, WidthRange) \
+    X(70, BoxRange) \
+    X(71, BoxSmall) \
+    X(72, UnknownAlign)
 
 /*
  * The memory of the library. heap.c has these three functions over malloc, realloc and free. A host with its own heap
