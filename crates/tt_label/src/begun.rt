@@ -1,14 +1,16 @@
 //! The units of a text with their steps, and its glyphs, which are made once for all rows.
 
 ghost use Rattle.std.specs.Prelude.{◌≡◌, ◌<◌, ◌≤◌, true, false, length, map, chars, All, Ok, Err, IfOk, pos};
-ghost use Rattle.std.specs.List.{sum_by};
+ghost use Rattle.std.specs.List.{flat_map, sum_by};
 ghost use Rattle.tt_core.specs.Limits.{margin_limit, text_limit};
 ghost use Rattle.tt_core.specs.Outcomes.{GivesUnless, IfTold, draw_font_fault};
 ghost use Rattle.tt_fit.specs.Fitting.{Fitter};
 ghost use Rattle.tt_label.specs.Begun.{HasFinish, IsBegun, begun_outcome};
 ghost use Rattle.tt_label.specs.Gathered.{AreReady, gathered, units_glyphs, units_made};
 ghost use Rattle.tt_label.specs.Label.{label_glyphs};
+ghost use Rattle.tt_label_rows.specs.Units.{text_units};
 ghost use Rattle.tt_line.specs.Outcome.{placement_of};
+ghost use Rattle.tt_metrics.specs.Metrics.{glyphs_of};
 ghost use Rattle.tt_picture.specs.Cached.{limit_of};
 ghost use Rattle.tt_rows.specs.Rows.{one_at_least};
 ghost use Rattle.tt_strike.specs.Defects.{IsLineDefect, TellsDefects};
@@ -45,6 +47,21 @@ pub struct BegunLabel {
     /// The glyphs of all units, one after the other, each at pen 0.
     pub gathered: Laid,
     pub stage: Stage,
+}
+
+/// The units of a text's lines, which have no steps yet. Error: Memory.
+/// Callers are apart (for the prover): they have no field of the strike.
+fn unstepped_units(sized: &mut SizedFace, text: &str) -> Result<Vec<Vec<RowUnit>>, AllocError>
+    requires text { length (chars text.now) ≤ text_limit }
+    ensures exact { IfOk result (λ v. map (λ l. l.items) v.items ≡ text_units sized.old.face.cmap text.now) }
+    ensures known { IfOk result (λ v. All (λ l. All (λ u. u.glyph < glyphs_of sized.old.face.metrics) l.items) v.items) }
+    ensures few { IfOk result (λ v. length (flat_map (λ l. l.items) v.items) ≤ text_limit) }
+    ensures some { IfOk result (λ v. 1 ≤ length v.items) }
+    ensures rows { IfOk result (λ v. sum_by (λ l. one_at_least (length l.items)) v.items ≤ text_limit) }
+    ensures same { sized.new ≡ sized.old }
+{
+    let alloc = sized.source.alloc;
+    text_units(alloc, &mut sized.known, text)
 }
 
 /// Some glyphs as a line, whatever their places.
@@ -84,7 +101,7 @@ fn begin_by_steps(
     ensures same { sized.new ≡ sized.old }
 {
     let source = sized.source;
-    let units = text_units(source.alloc, source.face.cmap(), text)?;
+    let units = unstepped_units(sized, text)?;
     let glyphs = all_glyphs(source.alloc, &units)?;
     let fitted = sized.fit_units(&glyphs, cache)?;
     let lines = fitted_lines(&source, &fitted, &units)?;
@@ -117,7 +134,7 @@ fn begin_by_advances(
 {
     let source = sized.source;
     let metrics = source.face.metrics();
-    let units = text_units(source.alloc, source.face.cmap(), text)?;
+    let units = unstepped_units(sized, text)?;
     let lines = stepped_lines(source.alloc, metrics, source.ppem, &units)?;
     let gathered = gathered_line(all_glyphs(source.alloc, &units)?, margin);
     let glyphs = sized.tested_glyphs(&gathered, cache)?;

@@ -104,7 +104,7 @@ impl<'t, 'a> KnownAdvances<'t, 'a> {
     }
 
     /// The map from characters to glyphs.
-    pub(crate) fn cmap(&self) -> &'t CharacterMap<'a>
+    pub fn cmap(&self) -> &'t CharacterMap<'a>
         ensures { result.now ≡ self.now.cmap }
     {
         self.cmap
@@ -130,6 +130,16 @@ impl<'t, 'a> KnownAdvances<'t, 'a> {
             }
         }
         true
+    }
+
+    /// The glyph of a unit.
+    #[inline(always)]
+    pub fn glyph_of(&mut self, unit: TextUnit) -> u16
+        ensures exact { result ≡ glyph_of_unit self.old.cmap unit }
+        ensures known { result < glyphs_of self.old.metrics }
+        ensures same { self.new ≡ self.old }
+    {
+        self.step(unit).glyph
     }
 
     /// The step of a unit.

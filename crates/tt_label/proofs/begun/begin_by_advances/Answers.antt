@@ -36,7 +36,7 @@ gathered_line-gathered-requires-clause-pens c =
 line_then : (c : After-gathered_line-gathered) → placement_of c.gathered_line-gathered.result.line
     ≡ gathered (all_glyphs (text_units c.sized.inside.source.face.now.cmap c.args.text.now))
 line_then c =
-    let units : its_units c.in_ok-units.units.items ≡ text_units c.sized.inside.source.face.now.cmap c.args.text.now = rw c.cmap.ensures.exact at c.in_ok-units.ensures.exact in
+    let units : its_units c.in_ok-units.units.items ≡ text_units c.sized.inside.source.face.now.cmap c.args.text.now = rw (← c.sized.view_is) at c.in_ok-units.ensures.exact in
     let flat : c.in_ok-all_glyphs.field-0.items ≡ at_zero (all_glyphs (its_units c.in_ok-units.units.items)) = rw c.deref-2.ensures.value at c.in_ok-all_glyphs.ensures in
     c.gathered_line-gathered.ensures.line ∙ rw (flat, units) refl
 
@@ -48,14 +48,28 @@ label_numbers c =
     ap (λ (l : Placement). map (λ (g : ℕ × ℕ). g.0) l.glyphs) (line_then c) ∙ zero_numbers (all_glyphs (text_units cmap c.args.text.now))
     ∙ text_has cmap c.args.text.now
 
+pub stepped_lines-requires-clause-known : goal.stepped_lines-requires-clause-known
+stepped_lines-requires-clause-known c =
+    let known = rw (← c.sized.view_is) at c.in_ok-units.ensures.known in
+    rw (c.deref.ensures.value, c.metrics-metrics.ensures) known
+
+pub tested_glyphs-requires-clause-unbounded : goal.tested_glyphs-requires-clause-unbounded
+tested_glyphs-requires-clause-unbounded c = rw c.unstepped_units.ensures.same c.requires.unbounded
+
+pub tested_glyphs-requires-clause-cache : goal.tested_glyphs-requires-clause-cache
+tested_glyphs-requires-clause-cache c = rw c.unstepped_units.ensures.same c.requires.cache
+
 pub tested_glyphs-requires-clause-known : goal.tested_glyphs-requires-clause-known
 tested_glyphs-requires-clause-known c =
     let all = goal.at.tested_glyphs-requires-clause-known c in
     let P : ℕ → Type 0 = λ n. n < glyphs_of c.sized.inside.source.face.now.metrics in
-    let known = rw c.cmap.ensures.glyphs at c.in_ok-units.ensures.known in
+    let known = rw (← c.sized.view_is) at c.in_ok-units.ensures.known in
     let flat = flat_of all.In_ok-all_glyphs in
     let own : c.gathered_line-gathered.result.line.glyphs.items ≡ c.in_ok-all_glyphs.field-0.items = ap (λ (l : Placement). l.glyphs) c.gathered_line-gathered.ensures.line in
-    rw (← c.sized.view_is, own, flat) (zero_have P (all_glyphs (its_units c.in_ok-units.units.items)) (glyphs_have P c.in_ok-units.units.items known))
+    rw (c.unstepped_units.ensures.same, ← c.sized.view_is, own, flat) (zero_have P (all_glyphs (its_units c.in_ok-units.units.items)) (glyphs_have P c.in_ok-units.units.items known))
+
+pub returns-in_err-glyphs-clause-cache : goal.returns-in_err-glyphs-clause-cache
+returns-in_err-glyphs-clause-cache c = rw c.unstepped_units.ensures.same at c.tested_glyphs.ensures.cache
 
 pub returns-in_err-glyphs-clause-stops : goal.returns-in_err-glyphs-clause-stops
 returns-in_err-glyphs-clause-stops c =
@@ -66,20 +80,23 @@ returns-in_err-glyphs-clause-stops c =
     let p = err_from_is_err_and c.from_residual-in_err-glyphs.result c.from_residual-in_err-glyphs.ensures.1 in
     rw (p.1, p.2) (shapes_stop_units z.face a c.in_err-glyphs.field-0.0 c.requires.unbounded
     (stopped_textless z c.args.text.now c.args.margin c.gathered_line-gathered.result.margin (units_glyphs z.face a)
-    (placement_of c.gathered_line-gathered.result.line) c.in_err-glyphs.field-0.0 c.gathered_line-gathered.ensures.margin line c.in_err-glyphs.ensures.stops))
+    (placement_of c.gathered_line-gathered.result.line) c.in_err-glyphs.field-0.0 c.gathered_line-gathered.ensures.margin line (rw c.unstepped_units.ensures.same at c.in_err-glyphs.ensures.stops)))
 
 pub returns-in_err-glyphs-clause-defects : goal.returns-in_err-glyphs-clause-defects
 returns-in_err-glyphs-clause-defects c =
     let all = goal.at.returns-in_err-glyphs-clause-defects c in
-    let met = rw (← c.sized.view_is, label_numbers all.After-gathered_line-gathered) at c.in_err-glyphs.ensures.defects in
+    let met = rw (c.unstepped_units.ensures.same, ← c.sized.view_is, label_numbers all.After-gathered_line-gathered) at c.in_err-glyphs.ensures.defects in
     let p = err_from_is_err_and c.from_residual-in_err-glyphs.result c.from_residual-in_err-glyphs.ensures.1 in
     rw (p.1, p.2, ← c.sized.view_is) met
 
 pub returns-clause-defects : goal.returns-clause-defects
 returns-clause-defects c =
     let all = goal.at.returns-clause-defects c in
-    let none = rw (← c.sized.view_is, label_numbers all.After-gathered_line-gathered) at c.in_ok-glyphs.ensures.defects in
+    let none = rw (c.unstepped_units.ensures.same, ← c.sized.view_is, label_numbers all.After-gathered_line-gathered) at c.in_ok-glyphs.ensures.defects in
     rw (← c.sized.view_is) none
+
+pub returns-clause-cache : goal.returns-clause-cache
+returns-clause-cache c = rw c.unstepped_units.ensures.same at c.tested_glyphs.ensures.cache
 
 pub returns-clause-begun : goal.returns-clause-begun
 returns-clause-begun c =
@@ -89,11 +106,11 @@ returns-clause-begun c =
     let gs = units_glyphs z.face a in
     let line = line_then all.After-gathered_line-gathered in
     let margin = c.gathered_line-gathered.ensures.margin in
-    let units : its_units c.in_ok-units.units.items ≡ text_units z.face.cmap a.text = rw c.cmap.ensures.exact at c.in_ok-units.ensures.exact in
+    let units : its_units c.in_ok-units.units.items ≡ text_units z.face.cmap a.text = rw (← c.sized.view_is) at c.in_ok-units.ensures.exact in
     let unbounded = rw (← c.sized.view_is) at c.requires.unbounded in
-    let textless = rw (← c.sized.view_is, line, margin) at c.in_ok-glyphs.ensures.made in
+    let textless = rw (c.unstepped_units.ensures.same, ← c.sized.view_is, line, margin) at c.in_ok-glyphs.ensures.made in
     let made = made_textless z c.args.text.now c.args.margin (gathered gs) textless in
-    let cost = rw (← c.sized.view_is, line, margin) at c.in_ok-glyphs.ensures.cost in
+    let cost = rw (c.unstepped_units.ensures.same, ← c.sized.view_is, line, margin) at c.in_ok-glyphs.ensures.cost in
     let step = step_in_pixels z.face.metrics z.ppem in
     let steps = rw (c.metrics-metrics.ensures, c.deref.ensures.value) at c.in_ok-lines.ensures in
     rw (← c.sized.view_is) (

@@ -32,7 +32,7 @@ numbers_of : (c : In_ok-glyphs) → map (λ (g : ℕ × ℕ). g.0) c.in_ok-glyph
 numbers_of c = ap (map (λ (g : ℕ × ℕ). g.0)) (flat_of c) ∙ zero_numbers (all_glyphs (its_units c.in_ok-units.units.items))
 
 units_are : (c : In_ok-units) → its_units c.in_ok-units.units.items ≡ text_units c.sized.inside.source.face.now.cmap c.args.text.now
-units_are c = rw c.cmap.ensures.exact at c.in_ok-units.ensures.exact
+units_are c = rw (← c.sized.view_is) at c.in_ok-units.ensures.exact
 
 few_then : (c : In_ok-glyphs) → length c.in_ok-glyphs.glyphs.items ≤ text_limit
 few_then c =
@@ -42,12 +42,18 @@ few_then c =
 known_then : (c : In_ok-glyphs) → All (λ (g : ℕ × ℕ). g.0 < glyphs_of c.sized.inside.source.face.now.metrics) c.in_ok-glyphs.glyphs.items
 known_then c =
     let P : ℕ → Type 0 = λ n. n < glyphs_of c.sized.inside.source.face.now.metrics in
-    let known = rw c.cmap.ensures.glyphs at c.in_ok-units.ensures.known in
+    let known = rw (← c.sized.view_is) at c.in_ok-units.ensures.known in
     rw (flat_of c) (zero_have P (all_glyphs (its_units c.in_ok-units.units.items)) (glyphs_have P c.in_ok-units.units.items known))
 
 pub fit_units-requires-clause-known : goal.fit_units-requires-clause-known
 fit_units-requires-clause-known c =
-    rw (← c.sized.view_is, c.deref-2.ensures.value) (known_then (goal.at.fit_units-requires-clause-known c).In_ok-glyphs)
+    rw (c.unstepped_units.ensures.same, ← c.sized.view_is, c.deref-2.ensures.value) (known_then (goal.at.fit_units-requires-clause-known c).In_ok-glyphs)
+
+pub fit_units-requires-clause-bounded : goal.fit_units-requires-clause-bounded
+fit_units-requires-clause-bounded c = rw c.unstepped_units.ensures.same c.requires.bounded
+
+pub fit_units-requires-clause-cache : goal.fit_units-requires-clause-cache
+fit_units-requires-clause-cache c = rw c.unstepped_units.ensures.same c.requires.cache
 
 pub fit_units-requires-clause-few : goal.fit_units-requires-clause-few
 fit_units-requires-clause-few c = rw c.deref-2.ensures.value (few_then (goal.at.fit_units-requires-clause-few c).In_ok-glyphs)
@@ -55,13 +61,13 @@ fit_units-requires-clause-few c = rw c.deref-2.ensures.value (few_then (goal.at.
 -- the glyphs that are fitted are those of the text
 text_numbers : (c : In_ok-glyphs) → map (λ (g : ℕ × ℕ). g.0) c.in_ok-glyphs.glyphs.items
     ≡ all_glyphs (text_units c.sized.inside.source.face.now.cmap c.args.text.now)
-text_numbers c = numbers_of c ∙ ap all_glyphs (rw c.cmap.ensures.exact at c.in_ok-units.ensures.exact)
+text_numbers c = numbers_of c ∙ ap all_glyphs (rw (← c.sized.view_is) at c.in_ok-units.ensures.exact)
 
 fitted_then : (c : In_ok-fitted) → map (λ (g : ℕ × ℕ). g.0) c.in_ok-glyphs.glyphs.items
     ≡ all_glyphs (text_units c.sized.inside.source.face.now.cmap c.args.text.now)
     → (s : Fitter) × AreFittedUnits c.sized.inside.source.face.now c.sized.inside.source.ppem c.sized.inside.source.fit
     (all_glyphs (text_units c.sized.inside.source.face.now.cmap c.args.text.now)) c.in_ok-fitted.fitted s
-fitted_then c are = rw (← c.sized.view_is, c.deref-2.ensures.value, are) at c.in_ok-fitted.ensures.fitted
+fitted_then c are = rw (c.unstepped_units.ensures.same, ← c.sized.view_is, c.deref-2.ensures.value, are) at c.in_ok-fitted.ensures.fitted
 
 pub fitted_lines-requires-clause-places : goal.fitted_lines-requires-clause-places
 fitted_lines-requires-clause-places c =
@@ -70,9 +76,7 @@ fitted_lines-requires-clause-places c =
 
 pub fitted_lines-requires-clause-known : goal.fitted_lines-requires-clause-known
 fitted_lines-requires-clause-known c =
-    let room = rw (← c.sized.view_is) at c.in_ok-fitted.ensures.room in
-    let known = rw (c.cmap.ensures.glyphs, ← room) at c.in_ok-units.ensures.known in
-    rw c.deref-3.ensures.value known
+    rw (c.deref-3.ensures.value, c.in_ok-fitted.ensures.room, c.unstepped_units.ensures.same) c.in_ok-units.ensures.known
 
 pub fitted_lines-requires-clause-among : goal.fitted_lines-requires-clause-among
 fitted_lines-requires-clause-among c =
@@ -91,7 +95,7 @@ returns-in_err-fitted-clause-stops c =
     let a = job_by z c.args.text.now c.args.margin in
     let all = goal.at.returns-in_err-fitted-clause-stops c in
     let bounded = rw (← c.sized.view_is) at c.requires.bounded in
-    let fails = rw (← c.sized.view_is, c.deref-2.ensures.value, text_numbers all.In_ok-glyphs) at c.in_err-fitted.ensures.stops in
+    let fails = rw (c.unstepped_units.ensures.same, ← c.sized.view_is, c.deref-2.ensures.value, text_numbers all.In_ok-glyphs) at c.in_err-fitted.ensures.stops in
     let p = err_from_is_err_and c.from_residual-in_err-fitted.result c.from_residual-in_err-fitted.ensures.1 in
     rw (p.1, p.2, ← c.sized.view_is) (outlines_stop_units z.face a c.in_err-fitted.field-0.0 bounded fails)
 
@@ -103,14 +107,14 @@ label_numbers c = text_numbers c ∙ text_has c.sized.inside.source.face.now.cma
 pub returns-in_err-fitted-clause-defects : goal.returns-in_err-fitted-clause-defects
 returns-in_err-fitted-clause-defects c =
     let all = goal.at.returns-in_err-fitted-clause-defects c in
-    let met = rw (← c.sized.view_is, c.deref-2.ensures.value, label_numbers all.In_ok-glyphs) at c.in_err-fitted.ensures.defects in
+    let met = rw (c.unstepped_units.ensures.same, ← c.sized.view_is, c.deref-2.ensures.value, label_numbers all.In_ok-glyphs) at c.in_err-fitted.ensures.defects in
     let p = err_from_is_err_and c.from_residual-in_err-fitted.result c.from_residual-in_err-fitted.ensures.1 in
     rw (p.1, p.2, ← c.sized.view_is) met
 
 pub returns-clause-defects : goal.returns-clause-defects
 returns-clause-defects c =
     let all = goal.at.returns-clause-defects c in
-    let none = rw (← c.sized.view_is, c.deref-2.ensures.value, label_numbers all.In_ok-glyphs) at c.in_ok-fitted.ensures.defects in
+    let none = rw (c.unstepped_units.ensures.same, ← c.sized.view_is, c.deref-2.ensures.value, label_numbers all.In_ok-glyphs) at c.in_ok-fitted.ensures.defects in
     rw (← c.sized.view_is) none
 
 pub gathered_line-requires-clause-few : goal.gathered_line-requires-clause-few
@@ -128,7 +132,7 @@ returns-clause-begun c =
     let gs = units_glyphs z.face a in
     let f = fitted_then all.In_ok-fitted (text_numbers all.In_ok-glyphs) in
     let s = f.0 in
-    let units : its_units c.in_ok-units.units.items ≡ text_units z.face.cmap a.text = rw c.cmap.ensures.exact at c.in_ok-units.ensures.exact in
+    let units : its_units c.in_ok-units.units.items ≡ text_units z.face.cmap a.text = rw (← c.sized.view_is) at c.in_ok-units.ensures.exact in
     let flat : c.in_ok-glyphs.glyphs.items ≡ at_zero gs = flat_of all.In_ok-glyphs ∙ ap (λ (us : List (List RowUnit)). at_zero (all_glyphs us)) units in
     let bounded = rw (← c.sized.view_is) at c.requires.bounded in
     let steps = c.in_ok-lines.ensures (advance_with s gs) (advances_are (line_fitter s gs) c.in_ok-fitted.fitted.fitted.items f.1.fitted) in

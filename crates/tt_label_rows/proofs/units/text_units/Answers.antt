@@ -11,9 +11,9 @@ use Rattle.std.specs.List.{flat_map}
 use Rattle.std.specs.Prelude.{All}
 use Rattle.std.specs.Str.Iter.{lines_rest}
 use Rattle.std.specs.Str.Lines.{lines}
-use Rattle.tt_cmap.specs.Maps.{glyph_count}
 use Rattle.tt_label_rows.specs.Units.{line_units}
 use Rattle.tt_line.specs.Labels.{label_lines, unmarked}
+use Rattle.tt_metrics.specs.Metrics.{glyphs_of}
 use Rattle.tt_rows.specs.Rows.{one_at_least}
 use Rattle.tt_rows.specs.declared.unit.RowUnit.{RowUnit}
 use Rattle.std.proofs.lemmas.Str.{chars-nil}
@@ -43,7 +43,8 @@ loop-line-init c =
     let count : length (chars (lines_rest c.into_iter-line-iterator.result)) ≤ length (chars c.args.text.now) = rw (rest, c.unmarked.ensures) few in
     record {
       units = rw none refl;
-      known = rw none (All-nil (λ (v : Vec RowUnit Global). All (λ (u : RowUnit). u.glyph < glyph_count c.args.cmap.now) v.items));
+      same = refl;
+      known = rw none (All-nil (λ (v : Vec RowUnit Global). All (λ (u : RowUnit). u.glyph < glyphs_of c.args.known.now.metrics) v.items));
       utf8 = rw rest c.unmarked.utf8;
       few = rw none (omega (arith, count));
       rows = rw none (omega (arith, count));
@@ -53,7 +54,7 @@ pub loop-line-preserved : goal.loop-line-preserved
 loop-line-preserved c =
     let at = c.loop-line in
     let so_far = at.invariant in
-    let m = c.args.cmap.now in
+    let m = c.args.known.now.cmap in
     let line = c.in-Some.line.now in
     let v = c.in_ok-units.units in
     let steps = c.in-Some.ensures.steps in
@@ -61,14 +62,16 @@ loop-line-preserved c =
     let pushed = c.in_ok-push.ensures.items in
     let F : List ℕ → List RowUnit = line_units m in
     let its : Vec RowUnit Global → List RowUnit = λ v. v.items in
-    let one : v.items ≡ F line = c.in_ok-units.ensures.exact in
+    let one : v.items ≡ F line = rw so_far.same at c.in_ok-units.ensures.exact in
+    let within : All (λ (u : RowUnit). u.glyph < glyphs_of c.args.known.now.metrics) v.items = rw so_far.same at c.in_ok-units.ensures.known in
     let few = c.in_ok-units.ensures.few in
     let long : length (flat_map its (at.lines.items ++ v ∷ [])) ≡ length (flat_map its at.lines.items) + length v.items =
     ap length (flat_map-append its at.lines.items (v ∷ [])) ∙ length-append (flat_map its at.lines.items) (v.items ++ [])
     ∙ ap (λ (xs : List RowUnit). length (flat_map its at.lines.items) + length xs) (append-nil v.items) in
     record {
       units = rw (pushed, map_push its at.lines.items v, map_push (λ (x : Bor (List ℕ)). x.now) at.yielded c.in-Some.line, map_push F (map (λ (x : Bor (List ℕ)). x.now) at.yielded) line, one, so_far.units) refl;
-      known = rw pushed (All-push (λ (v : Vec RowUnit Global). All (λ (u : RowUnit). u.glyph < glyph_count m) v.items) at.lines.items v so_far.known c.in_ok-units.ensures.known);
+      known = rw pushed (All-push (λ (v : Vec RowUnit Global). All (λ (u : RowUnit). u.glyph < glyphs_of c.args.known.now.metrics) v.items) at.lines.items v so_far.known within);
+      same = c.line_units.ensures.same ∙ so_far.same;
       utf8 = parts.text;
       few = rw (pushed, long) (omega (arith, parts.all, so_far.few, few));
       rows = rw (pushed, sum_by_push (λ (v : Vec RowUnit Global). one_at_least (length v.items)) at.lines.items v)
@@ -81,7 +84,7 @@ pub returns-clause-exact : goal.returns-clause-exact
 unfolding label_lines
 returns-clause-exact c =
     let at = c.loop-line in
-    let m = c.args.cmap.now in
+    let m = c.args.known.now.cmap in
     let F : List ℕ → List RowUnit = line_units m in
     let its : Vec RowUnit Global → List RowUnit = λ v. v.items in
     let text = unmarked c.args.text.now in
