@@ -18,17 +18,23 @@ MEMORY_ROWS = (
 
 @dataclass
 class Measure:
-    """A job's font and name, its seconds over those of `two`, its seconds, the MiB besides the font, how many lines it
-    reads, and how it ended.
+    """A job's font and name, its seconds over those of `two`, its seconds, the MiB resident at most and those of the
+    font, how many lines the job reads, and how it ended.
     """
 
     font: str
     job: str
     ratio: float
     seconds: float
-    mib: float
+    resident: float
+    font_mib: float
     lines: int
     end: str
+
+    @property
+    def mib(self):
+        """The MiB besides the font."""
+        return max(self.resident - self.font_mib, 0)
 
 
 def worst(measures, jobs, value):
