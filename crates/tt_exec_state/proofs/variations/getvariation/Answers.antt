@@ -1,4 +1,4 @@
-use Rattle.std.proofs.Common.{add-one, sym, refl, SFits, w64, rules}
+use Rattle.std.proofs.Common.{add-one, sym, refl, get_or, pos, SFits, w16, w64, rules}
 use Rattle.std.proofs.lemmas.Int.{to_z-of_z}
 use Rattle.std.proofs.lemmas.Result.{err_from_is_err_and}
 use Rattle.tt_exec_state.proofs.Places.{next_number}
@@ -6,7 +6,10 @@ use Rattle.tt_exec_state.proofs.variations.getvariation.Goals as goal
 
 pub loop-coordinate-preserved : goal.loop-coordinate-preserved
 loop-coordinate-preserved c =
-    let next = next_number c.args.coordinates.now c.loop-coordinate.coordinate-index _ c.loop-coordinate.stack c.loop-coordinate-test.true refl in
+    let all = c.args.coordinates.now in
+    let i = c.loop-coordinate.coordinate-index in
+    let next = next_number all i _ c.loop-coordinate.stack c.loop-coordinate-test.true refl in
+    let own : SFits w16 (get_or all i (pos 0)) = search rules in
     let wide : SFits w64 c.from.result = search rules in
     let is = simp to_z-of_z at c.from.ensures in
     let pushed = rw is at (simp to_z-of_z at c.in_ok-push.ensures) in
@@ -14,7 +17,10 @@ loop-coordinate-preserved c =
 
 pub returns-in_err-push : goal.returns-in_err-push
 returns-in_err-push c =
-    let next = next_number c.args.coordinates.now c.loop-coordinate.coordinate-index _ c.loop-coordinate.stack c.loop-coordinate-test.true refl in
+    let all = c.args.coordinates.now in
+    let i = c.loop-coordinate.coordinate-index in
+    let next = next_number all i _ c.loop-coordinate.stack c.loop-coordinate-test.true refl in
+    let own : SFits w16 (get_or all i (pos 0)) = search rules in
     let wide : SFits w64 c.from.result = search rules in
     let is = simp to_z-of_z at c.from.ensures in
     let pushed = rw is at (simp to_z-of_z at c.in_err-push.ensures) in
