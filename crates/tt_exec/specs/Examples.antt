@@ -84,14 +84,14 @@ stack_at n font m control =
     after m (run_from (record { table = codes "prep"; base = 40; bytes = control }) s) >>= λ t. Ok t.stack
 
 -- GETVARIATION, GETDATA: the first axis' place is pushed first
-instance_told : stack_at 0 [] 2 (0x91 ∷ 0x92 ∷ []) ≡ Ok (pos 17 ∷ negsuc 13107 ∷ pos 8192 ∷ [])
+axes_pushed : stack_at 0 [] 2 (0x91 ∷ 0x92 ∷ []) ≡ Ok (pos 17 ∷ negsuc 13107 ∷ pos 8192 ∷ [])
 unfolding its_parts pushed
-instance_told = refl
+axes_pushed = refl
 
 -- PUSHB 9; GETINFO
-version_and_instance_told : stack_at 0 [] 2 (0xB0 ∷ 9 ∷ 0x88 ∷ []) ≡ Ok (pos 1059 ∷ [])
+version_and_instance : stack_at 0 [] 2 (0xB0 ∷ 9 ∷ 0x88 ∷ []) ≡ Ok (pos 1059 ∷ [])
 unfolding its_parts pushed
-version_and_instance_told = refl
+version_and_instance = refl
 
 -- PUSHB 0x91; IDEF; POP; ENDF: passed over at an instance, and GETVARIATION afterwards
 name_kept : stack_at 2 (0xB0 ∷ 0x91 ∷ 0x89 ∷ 0x21 ∷ 0x2D ∷ []) 1 (0x91 ∷ []) ≡ Ok (negsuc 13107 ∷ pos 8192 ∷ [])

@@ -153,21 +153,21 @@ two_points_moved : points_cost 0x27 3 5 ≡ 9
 two_points_moved = refl
 
 -- GETVARIATION, GETDATA and an opcode without a name, without an instance
-no_instance_told : costs_of (0x91 ∷ 0x92 ∷ 0x93 ∷ []) ≡ 2 ∷ 2 ∷ 2 ∷ []
+without_an_instance : costs_of (0x91 ∷ 0x92 ∷ 0x93 ∷ []) ≡ 2 ∷ 2 ∷ 2 ∷ []
 unfolding slowness
-no_instance_told = refl
+without_an_instance = refl
 
 -- the work of an opcode at an instance on these axes
-abbrev told_cost : ℕ → List ℤ → ℕ
-told_cost op instance = step_cost (record (before op 3 5) { instance = instance })
+abbrev cost_at : ℕ → List ℤ → ℕ
+cost_at op instance = step_cost (record (before op 3 5) { instance = instance })
 
 -- GETVARIATION, as NPUSHB: each number pushed is 1
-instances_told : map (told_cost 0x91) ((pos 8192 ∷ []) ∷ (pos 8192 ∷ negsuc 13107 ∷ pos 0 ∷ []) ∷ []) ≡ 2 ∷ 4 ∷ []
-instances_told = refl
+axes_pushed : map (cost_at 0x91) ((pos 8192 ∷ []) ∷ (pos 8192 ∷ negsuc 13107 ∷ pos 0 ∷ []) ∷ []) ≡ 2 ∷ 4 ∷ []
+axes_pushed = refl
 
-number_told : told_cost 0x92 (pos 8192 ∷ negsuc 13107 ∷ pos 0 ∷ []) ≡ 2
+one_pushed : cost_at 0x92 (pos 8192 ∷ negsuc 13107 ∷ pos 0 ∷ []) ≡ 2
 unfolding slowness
-number_told = refl
+one_pushed = refl
 
 -- SWAP, DEPTH; CALL, ENDF; EIF
 calls_and_stack : costs_of (0x23 ∷ 0x24 ∷ 0x2B ∷ 0x2D ∷ 0x59 ∷ []) ≡ 1 ∷ 2 ∷ 2 ∷ 2 ∷ 1 ∷ []

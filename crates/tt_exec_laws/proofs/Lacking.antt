@@ -295,7 +295,7 @@ operate_lacks k (op.on_points o) at m there = points_lack k.points o at m there
 operate_lacks k op.idef at m there =
     either (may_define m.kind m.callers) _ _ (idef_from_lacks m.stack at m there) refl
 operate_lacks k (op.beyond o) at m there = either m.graphics.whole _ _ (operate_lacks k o at m there) refl
-operate_lacks k (op.tell o opcode) at m there =
+operate_lacks k (op.read_instance o opcode) at m there =
     either (has_instance m.instance) _ _
     (stack_lacks at m (variation_answered o m.instance m.stack) (variation_total o m.instance m.stack))
     (instruction_called_lacks at m (function_at (pos opcode) m.instructions))

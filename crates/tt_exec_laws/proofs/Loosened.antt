@@ -383,9 +383,9 @@ operate_loosens k op.idef at m =
     (refused m at why.DefinitionPlace)
 operate_loosens k (op.beyond o) at m =
     either m.graphics.whole _ _ _ _ (operate_loosens k o at m) (refused m at why.OffProfile)
-operate_loosens k (op.tell o opcode) at m =
+operate_loosens k (op.read_instance o opcode) at m =
     let given = variation_answered o m.instance m.stack in
-    unfilled k.stays m (operate (op.tell o opcode) at (strict_in m)) (operate (op.tell o opcode) at)
+    unfilled k.stays m (operate (op.read_instance o opcode) at (strict_in m)) (operate (op.read_instance o opcode) at)
     (either (has_instance m.instance) _ _ _ _ (stack_loosens at m given given (same given))
     (instruction_called_loosens at m (function_at (pos opcode) m.instructions)))
 operate_loosens k (op.unnamed opcode) at m =

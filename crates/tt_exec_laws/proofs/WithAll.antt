@@ -236,7 +236,7 @@ operate_stays k op.idef at m =
     either (may_define m.kind m.callers) _ _ _ _ (idef_from_stays m.stack at m) (refused m at why.DefinitionPlace)
 operate_stays k (op.beyond o) at m =
     beyond_stays m.graphics.whole m at (operate o at m) (operate o at (with_all_in m)) (operate_stays k o at m)
-operate_stays k (op.tell o opcode) at m =
+operate_stays k (op.read_instance o opcode) at m =
     either (has_instance m.instance) _ _ _ _ (stack_stays at m (variation_answered o m.instance m.stack))
     (instruction_called_stays at m (function_at (pos opcode) m.instructions))
 operate_stays k (op.unnamed opcode) at m =

@@ -1,15 +1,18 @@
 //! The instance of a variable font. OpenType, "OpenType Font Variations Overview", "Coordinate Scales and Normalization".
 
 ghost use Rattle.std.specs.Prelude.{◌≡◌, ◌++◌, ◌∷◌, [], ◌<◌, ◌≤◌, length, unsigned_abs};
+ghost use Rattle.tt_core.specs.Limits.{axis_limit};
+
+use tt_core::AXIS_LIMIT;
 
 /// The place of an instance on each axis of its font, in 2.14, the first axis' first. The default instance has none, and
 /// so has a font without axes. No program changes the instance.
 #[derive(Clone, Copy)]
 pub struct Instance {
-    coordinates: [i16; 64],
+    coordinates: [i16; AXIS_LIMIT],
     axes: usize,
-    ghost long: { length coordinates ≡ 64 },
-    ghost few: { axes ≤ 64 },
+    ghost long: { length coordinates ≡ axis_limit },
+    ghost few: { axes ≤ axis_limit },
 }
 
 impl Instance {
@@ -20,14 +23,14 @@ impl Instance {
         ensures { instance_of result ≡ [] }
     {
         Instance {
-            coordinates: [0; 64],
+            coordinates: [0; AXIS_LIMIT],
             axes: 0,
         }
     }
 
     /// Adds the place on the next axis, a coordinate in 16.16 from -1 to 1. What 2.14 lacks is cut off, toward -1.
     pub fn push(&mut self, coordinate: i32)
-        requires room { length (instance_of self.old) < 64 }
+        requires room { length (instance_of self.old) < axis_limit }
         requires within { unsigned_abs coordinate ≤ 65536 }
         ensures { instance_of self.new ≡ instance_of self.old ++ f2dot14 coordinate ∷ [] }
     {
@@ -38,7 +41,7 @@ impl Instance {
     /// The places.
     pub fn coordinates(&self) -> &[i16]
         ensures exact { result.now ≡ instance_of self.now }
-        ensures few { length result.now ≤ 64 }
+        ensures few { length result.now ≤ axis_limit }
     {
         &self.coordinates[..self.axes]
     }

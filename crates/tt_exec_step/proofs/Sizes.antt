@@ -236,7 +236,7 @@ operate_kept k j op.idef at m has =
     either (Keeps m) (may_define m.kind m.callers) _ _ (idef_from_kept m.stack at m) tt
 operate_kept k j (op.beyond o) at m has =
     either (Keeps m) m.graphics.whole _ _ (operate_kept k j o at m has) tt
-operate_kept k j (op.tell o opcode) at m has =
+operate_kept k j (op.read_instance o opcode) at m has =
     either (Keeps m) (has_instance m.instance) _ _ (on_stack_kept at m (variation_answered o m.instance m.stack))
     (instruction_called_kept at m (function_at (pos opcode) m.instructions))
 operate_kept k j (op.unnamed opcode) at m has =

@@ -50,8 +50,8 @@ opcodes_beyond =
 -- of variable fonts; without an instance these opcodes have no name
 abbrev pub opcodes_of_instance : List (ℕ × Operation)
 opcodes_of_instance =
-    (0x91, op.tell variation.Getvariation 0x91) ∷
-    (0x92, op.tell variation.Getdata 0x92) ∷
+    (0x91, op.read_instance variation.Getvariation 0x91) ∷
+    (0x92, op.read_instance variation.Getdata 0x92) ∷
     []
 
 -- an opcode in no table of the profile
@@ -248,10 +248,6 @@ abbrev is_unnamed : Operation → Bool
 is_unnamed (op.unnamed n) = true
 is_unnamed _ = false
 
-abbrev is_of_instance : Operation → Bool
-is_of_instance (op.tell o opcode) = true
-is_of_instance _ = false
-
 abbrev is_beyond : Operation → Bool
 is_beyond (op.beyond o) = true
 is_beyond _ = false
@@ -259,10 +255,6 @@ is_beyond _ = false
 -- every opcode without an instruction: one missing in a table would be listed here
 no_instruction : those is_unnamed (from 0 256) ≡ 0x28 ∷ 0x7B ∷ 0x83 ∷ 0x84 ∷ 0x8F ∷ 0x90 ∷ from 0x93 29
 no_instruction = refl
-
--- GETVARIATION and GETDATA
-of_variable_fonts : those is_of_instance (from 0 256) ≡ 0x91 ∷ 0x92 ∷ []
-of_variable_fonts = refl
 
 -- SPVTL, SFVTL, ISECT, ALIGNPTS, DEBUG, S45ROUND, SDPVTL and IDEF: every opcode beyond the profile
 beyond_the_profile : those is_beyond (from 0 256)
@@ -294,10 +286,10 @@ sdpvtl_turned = refl
 idef : operation_of 0x89 ≡ op.beyond op.idef
 idef = refl
 
-getvariation : operation_of 0x91 ≡ op.tell variation.Getvariation 0x91
+getvariation : operation_of 0x91 ≡ op.read_instance variation.Getvariation 0x91
 getvariation = refl
 
-getdata : operation_of 0x92 ≡ op.tell variation.Getdata 0x92
+getdata : operation_of 0x92 ≡ op.read_instance variation.Getdata 0x92
 getdata = refl
 
 -- on the stack and on settings

@@ -36,7 +36,7 @@ pub data Operation : Type 0 where
   -- an instruction that is refused without the whole instruction set (profile)
   beyond : Operation → Operation
   -- an instruction of variable fonts; without an instance its opcode has no name
-  tell : Variation → ℕ → Operation
+  read_instance : Variation → ℕ → Operation
   -- an opcode without a name: a program may define it
   unnamed : ℕ → Operation
 
@@ -63,5 +63,5 @@ takes loopcall = 2
 takes (on_points o) = points.takes o
 takes idef = 1
 takes (beyond o) = takes o
-takes (tell o opcode) = 0
+takes (read_instance o opcode) = 0
 takes (unnamed opcode) = 0

@@ -77,7 +77,7 @@ operate op.loopcall at m = loopcall m.stack at m
 operate (op.on_points o) at m = on_points o at m
 operate op.idef at m = idef at m
 operate (op.beyond o) at m = if m.graphics.whole then operate o at m else Err (fault_in m.frame at why.OffProfile)
-operate (op.tell o opcode) at m =
+operate (op.read_instance o opcode) at m =
     if has_instance m.instance then on_stack at m (variation_answered o m.instance m.stack)
     else instruction_called at m (function_at (pos opcode) m.instructions)
 operate (op.unnamed opcode) at m = instruction_called at m (function_at (pos opcode) m.instructions)

@@ -79,9 +79,9 @@ impl MachineState<'_> {
     }
 
     /// GETVARIATION[], 0x91; GETDATA[], 0x92. Without an instance the opcode has no name.
-    fn tell(&mut self, variation: Variation, op: u8, at: usize) -> Outcome
+    fn read_instance(&mut self, variation: Variation, op: u8, at: usize) -> Outcome
         requires { at < length self.old.frame.code.bytes.now }
-        ensures { Operates (operation.tell variation op) at (state_of self.old) (state_of self.new) result }
+        ensures { Operates (operation.read_instance variation op) at (state_of self.old) (state_of self.new) result }
     {
         if self.instance.is_some() {
             return self.answer_variation(variation, at);
@@ -110,8 +110,8 @@ impl MachineState<'_> {
             0x86 => self.on_lines(OnLines::Sdpvtl { turned: false }, at),
             0x87 => self.on_lines(OnLines::Sdpvtl { turned: true }, at),
             0x89 => self.define_instruction(at),
-            0x91 => self.tell(Variation::Getvariation, 0x91, at),
-            0x92 => self.tell(Variation::Getdata, 0x92, at),
+            0x91 => self.read_instance(Variation::Getvariation, 0x91, at),
+            0x92 => self.read_instance(Variation::Getdata, 0x92, at),
             _ => self.call_instruction(op, at),
         }
     }
