@@ -11,14 +11,14 @@ use Rattle.tt_exec_step.specs.FixedWork.{fixed_work, works}
 use Rattle.tt_exec_step.specs.Flow.{skips_if}
 use Rattle.tt_exec_step.specs.MachineState.{MachineState}
 use Rattle.tt_exec.specs.Worked.{Pays}
-use Rattle.tt_exec.specs.Work.{charged, cost_by, over_at, passed_by, step_cost, top_of, gone_over, passed, is_looped, is_counted, is_of_glyph, is_of_flags, is_of_zone, is_push_of_many, moves_one, is_relative, is_of_lines, finds_two, is_of_distance, is_slow, is_push, is_quick, slowness}
+use Rattle.tt_exec.specs.Work.{charged, cost_by, over_at, passed_by, step_cost, top_of, gone_over, passed, is_looped, is_counted, is_of_glyph, is_of_flags, is_of_zone, is_push_of_many, is_of_axes, moves_one, is_relative, is_of_lines, finds_two, is_of_distance, is_slow, is_push, is_quick, slowness}
 
 -- whether an opcode's work depends on more than the opcode
 abbrev skips : ℕ → Bool
 skips op = op == 0x58 || (op == 0x1B || (op == 0x2C || op == 0x89))
 
 abbrev varies_by_data : ℕ → Bool
-varies_by_data op = is_of_flags op || (is_of_zone op || (is_push_of_many op || skips op))
+varies_by_data op = is_of_flags op || (is_of_zone op || (is_push_of_many op || (is_of_axes op || skips op)))
 
 abbrev varies : ℕ → Bool
 varies op = is_looped op || (is_counted op || (is_of_glyph op || varies_by_data op))
@@ -108,13 +108,15 @@ says op m h =
     let zone = neither_first (is_of_zone op) _ h in
     let h = neither_second (is_of_zone op) _ h in
     let push = neither_first (is_push_of_many op) _ h in
-    let h = neither_second (is_push_of_many op) (skips op) h in
+    let h = neither_second (is_push_of_many op) _ h in
+    let axes = neither_first (is_of_axes op) _ h in
+    let h = neither_second (is_of_axes op) (skips op) h in
     let if_at = neither_first (op == 0x58) _ h in
     let h = neither_second (op == 0x58) (op == 0x1B || (op == 0x2C || op == 0x89)) h in
     let else_at = neither_first (op == 0x1B) _ h in
     let def_at = neither_second (op == 0x1B) (op == 0x2C || op == 0x89) h in
     ap (λ n. 1 + (gone_over op m + n)) (passes_none op m if_at else_at def_at)
-    ∙ rw (looped, counted, glyph, flags, zone, push)
+    ∙ rw (looped, counted, glyph, flags, zone, push, axes)
     (by_class (moves_one op) (is_relative op) (op == 0x27) (is_of_lines op) (finds_two op) (is_of_distance op) (is_slow op) (is_push op) (is_quick op) (op % 8))
 
 by_entry : (some varying same : Bool) (op : ℕ) (m : MachineState) (cost : ℕ) → (cost == 0) ≡ some → varies op ≡ varying

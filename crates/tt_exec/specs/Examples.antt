@@ -1,13 +1,13 @@
 -- Worked programs: the stack after a count of steps, the top first, or the fault. Apple TrueType Reference Manual,
 -- "Instruction set".
-use Rattle.std.specs.Prelude.{◌≡◌, ℕ, zero, suc, ℤ, pos, negsuc, false, List, [], ◌∷◌, codes, Some, Result, Ok, Err, refl}
+use Rattle.std.specs.Prelude.{◌≡◌, ℕ, zero, suc, ℤ, pos, negsuc, true, false, List, [], ◌∷◌, codes, Some, Result, Ok, Err, refl}
 use Rattle.tt_core.specs.Scales.{exact_scale}
 use Rattle.tt_core.specs.declared.halves.Halves.TheVariants as halves
 use Rattle.tt_exec_step.specs.zones.Zones.{in_pixels}
 use Rattle.tt_core.specs.Faults.{Fault, fault_at}
 use Rattle.tt_core.specs.Outcomes.{◌>>=◌}
 use Rattle.tt_core.specs.declared.fault.Why.TheVariants as why
-use Rattle.tt_state.specs.GraphicsState.{default_state}
+use Rattle.tt_state.specs.GraphicsState.{default_of, default_state}
 use Rattle.tt_state.specs.declared.tolerance.Tolerance.TheVariants as tolerance
 use Rattle.tt_exec_step.specs.stack.Stack.{pushed}
 use Rattle.tt_exec.specs.Machines.{fresh, run_from}
@@ -32,6 +32,7 @@ its_parts = record {
   functions = [];
   instructions = [];
   state = default_state;
+  instance = [];
   tolerance = tolerance.Strict;
   skip_glyphs = false;
   default_state = false;
@@ -74,6 +75,33 @@ in_its_own_table = refl
 never_called : stack_after 0 [] 2 (0xB1 ∷ 0 ∷ 7 ∷ 0x2A ∷ []) ≡ Err (fault_at (codes "prep") 43 why.NoFunction)
 unfolding its_parts pushed
 never_called = refl
+
+-- the first program's steps, and then the second's, at an instance on two axes: a half and -0.8
+abbrev stack_at : ℕ → List ℕ → ℕ → List ℕ → Result (List ℤ) Fault
+stack_at n font m control =
+    let parts = record its_parts { instance = pos 8192 ∷ negsuc 13107 ∷ []; state = default_of true } in
+    after n (run_from (record { table = codes "fpgm"; base = 0; bytes = font }) (fresh parts)) >>= λ s.
+    after m (run_from (record { table = codes "prep"; base = 40; bytes = control }) s) >>= λ t. Ok t.stack
+
+-- GETVARIATION, GETDATA: the first axis' place is pushed first
+axes_pushed : stack_at 0 [] 2 (0x91 ∷ 0x92 ∷ []) ≡ Ok (pos 17 ∷ negsuc 13107 ∷ pos 8192 ∷ [])
+unfolding its_parts pushed
+axes_pushed = refl
+
+-- PUSHB 9; GETINFO
+version_and_instance : stack_at 0 [] 2 (0xB0 ∷ 9 ∷ 0x88 ∷ []) ≡ Ok (pos 1059 ∷ [])
+unfolding its_parts pushed
+version_and_instance = refl
+
+-- PUSHB 0x91; IDEF; POP; ENDF: passed over at an instance, and GETVARIATION afterwards
+name_kept : stack_at 2 (0xB0 ∷ 0x91 ∷ 0x89 ∷ 0x21 ∷ 0x2D ∷ []) 1 (0x91 ∷ []) ≡ Ok (negsuc 13107 ∷ pos 8192 ∷ [])
+unfolding its_parts pushed
+name_kept = refl
+
+-- no name without an instance
+no_name : stack_after 0 [] 1 (0x91 ∷ []) ≡ Err (fault_at (codes "prep") 40 why.BadOpcode)
+unfolding its_parts pushed
+no_name = refl
 
 -- the stack at a program's end, with a limit of steps
 abbrev stack_within : ℕ → List ℕ → Result (List ℤ) Fault

@@ -11,4 +11,5 @@ pub mod Work
 pub mod WorkExamples
 pub mod Worked
 pub use Rattle.tt_exec_step.specs as step
+pub use Rattle.tt_exec_step.specs.state as state
 pub use Rattle.tt_exec_step.specs.zones as zones

@@ -33,6 +33,7 @@ fresh p = record {
   default_state = p.default_state;
   ppem = p.ppem;
   scale = p.scale;
+  instance = p.instance;
   kind = kind.Glyph;
 }
 
@@ -51,6 +52,7 @@ parts_in m = record {
   functions = m.functions;
   instructions = m.instructions;
   state = m.graphics;
+  instance = m.instance;
   tolerance = m.tolerance;
   skip_glyphs = m.skip_glyphs;
   default_state = m.default_state;

@@ -5,7 +5,7 @@
 -- DELTAC, and an entry of MINDEX, is 2. A point moved by itself, named on the stack, or moved with its contour or zone
 -- is 4. A point that MDRP moves is 7. A point that IUP covers is 2. A vector or a place found from lines is 32. These
 -- weights follow measured times.
-use Rattle.std.specs.Prelude.{ℕ, zero, suc, ◌+◌, ◌-◌, ◌*◌, ◌%◌, ◌==◌, ◌||◌, ◌&&◌, min, nat_le, ℤ, pos, unsigned_abs, Bool, if◌then◌else◌, List, [], ◌∷◌, length, slice_index, Option, Some, None, Result, Ok, Err}
+use Rattle.std.specs.Prelude.{ℕ, zero, suc, ◌+◌, ◌-◌, ◌*◌, ◌%◌, ◌==◌, ◌||◌, ◌&&◌, min, max, nat_le, ℤ, pos, unsigned_abs, Bool, if◌then◌else◌, List, [], ◌∷◌, length, slice_index, Option, Some, None, Result, Ok, Err}
 use Rattle.tt_core.specs.Faults.{Fault}
 use Rattle.tt_core.specs.Limits.{step_limit}
 use Rattle.tt_core.specs.declared.fault.Why.TheVariants as why
@@ -106,6 +106,10 @@ is_quick op =
 abbrev pub is_push_of_many : ℕ → Bool
 is_push_of_many op = op == 0x40 || op == 0x41
 
+-- GETVARIATION pushes an entry for each axis; without an instance this opcode is as slow as others
+abbrev pub is_of_axes : ℕ → Bool
+is_of_axes op = op == 0x91
+
 -- the extra work of an instruction that covers no point or entry; a push of n values has n - 1
 unfoldable pub slowness : ℕ → ℕ
 slowness op =
@@ -122,7 +126,8 @@ weight op m =
     if op == 0x27 then 8 else (
     if is_of_lines op then 32 else (
     if finds_two op then 48 else (
-    if is_push_of_many op then slice_index m.frame.code.bytes (m.frame.place + 1) else slowness op)))))
+    if is_push_of_many op then slice_index m.frame.code.bytes (m.frame.place + 1) else (
+    if is_of_axes op then max (length m.instance) 1 else slowness op))))))
 
 -- the work for the two reference points of IP, whatever the loop variable
 abbrev pub referred : ℕ → ℕ

@@ -32,6 +32,7 @@ with_counts twilight glyph functions instructions = record {
   functions = functions;
   instructions = instructions;
   state = default_state;
+  instance = [];
   tolerance = tolerance.Strict;
   skip_glyphs = false;
   default_state = false;
@@ -150,6 +151,23 @@ one_vector_found = refl
 -- ALIGNPTS
 two_points_moved : points_cost 0x27 3 5 ≡ 9
 two_points_moved = refl
+
+-- GETVARIATION, GETDATA and an opcode without a name, without an instance
+without_an_instance : costs_of (0x91 ∷ 0x92 ∷ 0x93 ∷ []) ≡ 2 ∷ 2 ∷ 2 ∷ []
+unfolding slowness
+without_an_instance = refl
+
+-- the work of an opcode at an instance on these axes
+abbrev cost_at : ℕ → List ℤ → ℕ
+cost_at op instance = step_cost (record (before op 3 5) { instance = instance })
+
+-- GETVARIATION, as NPUSHB: each number pushed is 1
+axes_pushed : map (cost_at 0x91) ((pos 8192 ∷ []) ∷ (pos 8192 ∷ negsuc 13107 ∷ pos 0 ∷ []) ∷ []) ≡ 2 ∷ 4 ∷ []
+axes_pushed = refl
+
+one_pushed : cost_at 0x92 (pos 8192 ∷ negsuc 13107 ∷ pos 0 ∷ []) ≡ 2
+unfolding slowness
+one_pushed = refl
 
 -- SWAP, DEPTH; CALL, ENDF; EIF
 calls_and_stack : costs_of (0x23 ∷ 0x24 ∷ 0x2B ∷ 0x2D ∷ 0x59 ∷ []) ≡ 1 ∷ 2 ∷ 2 ∷ 2 ∷ 1 ∷ []

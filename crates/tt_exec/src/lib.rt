@@ -15,5 +15,5 @@ pub use copies::Copies;
 pub use fault::ExecFault;
 pub use machine::Machine;
 pub use parts::Parts;
-pub use tt_exec_step::{Body, Code, Functions, Originals, Zones};
+pub use tt_exec_step::{Body, Code, Functions, Instance, Originals, Zones};
 pub use work::{Work, WorkFault};

@@ -78,6 +78,7 @@ impl<'a> Machine<'a> {
             skip_glyphs: parts.skip_glyphs,
             default_state: parts.default_state,
             size: Size::new(parts.ppem, parts.scale),
+            instance: parts.instance,
             kind: Kind::Glyph,
         };
         Ok(Machine {
@@ -121,6 +122,7 @@ impl<'a> Machine<'a> {
         self.state.skip_glyphs = parts.skip_glyphs;
         self.state.default_state = parts.default_state;
         self.state.size = Size::new(parts.ppem, parts.scale);
+        self.state.instance = parts.instance;
         self.failed = false;
         Ok(())
     }

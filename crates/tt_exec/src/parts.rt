@@ -9,7 +9,7 @@ ghost use Rattle.tt_exec_step.specs.zones.Zones.{IsZones};
 
 use std::alloc::AllocError;
 use tt_core::Scale;
-use tt_exec_step::{Functions, MachineState, Zones};
+use tt_exec_step::{Functions, Instance, MachineState, Zones};
 use tt_state::{GraphicsState, Tolerance};
 
 /// The parts of a machine, before and after runs. Distances are in 26.6 pixels.
@@ -28,6 +28,8 @@ pub struct Parts<'a> {
     /// The instructions defined by IDEF, by opcode.
     pub instructions: Functions<'a>,
     pub state: GraphicsState,
+    /// The instance of a variable font. No program sets it.
+    pub instance: Instance,
     /// Whether a missing thing is refused or passed over. No program sets it.
     pub tolerance: Tolerance,
     /// Whether the control value program forbids glyph programs.
@@ -57,6 +59,7 @@ impl<'a> Parts<'a> {
             functions: state.functions,
             instructions: state.instructions,
             state: state.graphics,
+            instance: state.instance,
             tolerance: state.tolerance,
             skip_glyphs: state.skip_glyphs,
             default_state: state.default_state,
@@ -76,6 +79,7 @@ impl<'a> Parts<'a> {
             functions: self.functions.copy()?,
             instructions: self.instructions.copy()?,
             state: self.state,
+            instance: self.instance,
             tolerance: self.tolerance,
             skip_glyphs: self.skip_glyphs,
             default_state: self.default_state,

@@ -70,6 +70,7 @@ fn weight(state: &MachineState<'_>, op: u8) -> u64
             Some(count) => u64::from(*count),
             None => 0,
         },
+        0x91 => (state.instance.coordinates().len() as u64).max(1),
         _ => slowness(op),
     }
 }

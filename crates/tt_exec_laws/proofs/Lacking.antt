@@ -23,11 +23,15 @@ use Rattle.tt_exec_stack.specs.Managing.{managed}
 use Rattle.tt_exec_stack.specs.Laws.{ManagingIsTotal, ArithmeticIsTotal, LogicIsTotal, PaddedIsEnough}
 use Rattle.tt_exec_stack.specs.Pushing.{pushed_bytes, pushed_words}
 use Rattle.tt_exec_stack.specs.Stack.{is_value, pushed, padded}
+use Rattle.tt_exec_state.specs.Instances.{has_instance}
 use Rattle.tt_exec_state.specs.Laws.{SettingIsTotal, ValuesAreTotal, VectorsAreTotal, QueriesAreTotal}
 use Rattle.tt_exec_state.specs.Queries.{answered}
 use Rattle.tt_exec_state.specs.Settings.{state_set}
 use Rattle.tt_exec_state.specs.StoredValues.{values_accessed}
+use Rattle.tt_exec_state.specs.Variations.{all_pushed, variation_answered}
 use Rattle.tt_exec_state.specs.Vectors.{vectors_accessed}
+use Rattle.tt_exec_state.specs.declared.instruction.Variation.{Variation}
+use Rattle.tt_exec_state.specs.declared.instruction.Variation.TheVariants as variation
 use Rattle.tt_exec_step.specs.Flags.{instctrl}
 use Rattle.tt_exec_step.specs.Flow.{goes_to, skipped, jumped, if_from, jmpr, jrot, jrof}
 use Rattle.tt_exec_step.specs.Functions.{may_define, defined, fdef_from, idef_from, endf, called, call, instruction_called, called_often, loopcall}
@@ -112,6 +116,14 @@ words_total (high ∷ low ∷ bytes) s =
     (pushed_total (signed16 (high * 256 + low)) s) (words_total bytes)
 words_total (high ∷ []) s = record {}
 words_total [] s = record {}
+
+all_total : (vs s : List ℤ) → IsTotal (all_pushed vs s)
+all_total [] s = record {}
+all_total (v ∷ vs) s = total_after (pushed v s) (all_pushed vs) (pushed_total v s) (all_total vs)
+
+variation_total : (o : Variation) (instance s : List ℤ) → IsTotal (variation_answered o instance s)
+variation_total variation.Getvariation instance s = all_total instance s
+variation_total variation.Getdata instance s = pushed_total (pos 17) s
 
 -- reading a program
 abbrev IsRead : {A : Type 0} → Result A Halt → Type 0
@@ -265,7 +277,7 @@ operate_lacks k (op.access_values o) at m there =
     places_lack at m (values_accessed o m.scale tolerance.Tolerant m.stack m.storage m.cvt)
     (k.values o m.scale m.stack m.storage m.cvt there)
 operate_lacks k (op.answer o) at m there =
-    stack_lacks at m (answered o m.ppem m.stack) (k.queries o m.ppem m.stack there)
+    stack_lacks at m (answered o m.ppem m.instance m.stack) (k.queries o m.ppem m.instance m.stack there)
 operate_lacks k op.instctrl at m there = instctrl_lacks m.stack at m there
 operate_lacks k op.if_from at m there = if_lacks m.stack at m there
 operate_lacks k op.else_from at m there =
@@ -283,6 +295,10 @@ operate_lacks k (op.on_points o) at m there = points_lack k.points o at m there
 operate_lacks k op.idef at m there =
     either (may_define m.kind m.callers) _ _ (idef_from_lacks m.stack at m there) refl
 operate_lacks k (op.beyond o) at m there = either m.graphics.whole _ _ (operate_lacks k o at m there) refl
+operate_lacks k (op.read_instance o opcode) at m there =
+    either (has_instance m.instance) _ _
+    (stack_lacks at m (variation_answered o m.instance m.stack) (variation_total o m.instance m.stack))
+    (instruction_called_lacks at m (function_at (pos opcode) m.instructions))
 operate_lacks k (op.unnamed opcode) at m there =
     instruction_called_lacks at m (function_at (pos opcode) m.instructions)
 

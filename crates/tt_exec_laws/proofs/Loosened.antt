@@ -32,10 +32,12 @@ use Rattle.tt_exec_state.specs.declared.instruction.StoredValues.{StoredValues}
 use Rattle.tt_exec_state.specs.declared.instruction.Vectors.{Vectors}
 use Rattle.tt_exec_stack.specs.Pushing.{pushed_bytes, pushed_words}
 use Rattle.tt_exec_stack.specs.Stack.{padded}
+use Rattle.tt_exec_state.specs.Instances.{has_instance}
 use Rattle.tt_exec_state.specs.Laws.{SettingIsLoosened, ValuesAreLoosened, SettingIsShort, ValuesAreShort, VectorsAreShort, QueriesAreShort}
 use Rattle.tt_exec_state.specs.Queries as queries
 use Rattle.tt_exec_state.specs.Settings as settings
 use Rattle.tt_exec_state.specs.StoredValues as values
+use Rattle.tt_exec_state.specs.Variations.{variation_answered}
 use Rattle.tt_exec_state.specs.Vectors as vectors
 use Rattle.tt_exec_step.specs.Flags.{flagged, instctrl}
 use Rattle.tt_exec_step.specs.Flow.{goes_to, skipped, jumped, if_from, jmpr, jrot, jrof}
@@ -212,7 +214,8 @@ jrof_loosens stays [] at m = short m at _
 pub with_definition_in : (t : Tolerance) (d : Definition) (f : Body) (m : MachineState)
     → with_definition d f (with_tolerance t m) ≡ with_tolerance t (with_definition d f m)
 with_definition_in t (definition.Function n) f m = refl
-with_definition_in t (definition.Instruction opcode) f m = in_tolerance t (has_no_name opcode) _ _ _ _ refl refl
+with_definition_in t (definition.Instruction opcode) f m = in_tolerance t
+    (has_no_name m.instance opcode) _ _ _ _ refl refl
 
 defined_loosens : (at : ℕ) (d : Definition) (m : MachineState) (r : Result ℕ Halt)
     → RunLoosens (defined at d (strict_in m) r) (defined at d (tolerant_in m) r)
@@ -309,10 +312,10 @@ arithmetic_loosens k o at m =
 
 queries_loosen : Families → (o : Query) (at : ℕ) (m : MachineState) → OperationLoosens (op.answer o) at m
 queries_loosen k o at m =
-    let given = queries.answered o m.ppem m.stack in
+    let given = queries.answered o m.ppem m.instance m.stack in
     filling k.stays (queries.takes o) m.stack m at (operate (op.answer o) at (strict_in m))
     (λ s. operate (op.answer o) at (filled_with s m))
-    (λ less. rw (k.queries_short o m.ppem m.stack less) refl) (stack_loosens at m given given (same given))
+    (λ less. rw (k.queries_short o m.ppem m.instance m.stack less) refl) (stack_loosens at m given given (same given))
 
 vectors_loosen : Families → (o : Vectors) (at : ℕ) (m : MachineState) → OperationLoosens (op.access_vectors o) at m
 vectors_loosen k o at m =
@@ -380,6 +383,11 @@ operate_loosens k op.idef at m =
     (refused m at why.DefinitionPlace)
 operate_loosens k (op.beyond o) at m =
     either m.graphics.whole _ _ _ _ (operate_loosens k o at m) (refused m at why.OffProfile)
+operate_loosens k (op.read_instance o opcode) at m =
+    let given = variation_answered o m.instance m.stack in
+    unfilled k.stays m (operate (op.read_instance o opcode) at (strict_in m)) (operate (op.read_instance o opcode) at)
+    (either (has_instance m.instance) _ _ _ _ (stack_loosens at m given given (same given))
+    (instruction_called_loosens at m (function_at (pos opcode) m.instructions)))
 operate_loosens k (op.unnamed opcode) at m =
     unfilled k.stays m (operate (op.unnamed opcode) at (strict_in m)) (operate (op.unnamed opcode) at)
     (instruction_called_loosens at m (function_at (pos opcode) m.instructions))

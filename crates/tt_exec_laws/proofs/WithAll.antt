@@ -20,9 +20,11 @@ use Rattle.tt_exec_stack.specs.Arithmetic.{computed}
 use Rattle.tt_exec_stack.specs.Logic.{is_true, evaluated}
 use Rattle.tt_exec_stack.specs.Managing.{managed}
 use Rattle.tt_exec_stack.specs.Pushing.{pushed_bytes, pushed_words}
+use Rattle.tt_exec_state.specs.Instances.{has_instance}
 use Rattle.tt_exec_state.specs.Queries.{answered}
 use Rattle.tt_exec_state.specs.Settings.{state_set}
 use Rattle.tt_exec_state.specs.StoredValues.{values_accessed}
+use Rattle.tt_exec_state.specs.Variations.{variation_answered}
 use Rattle.tt_exec_state.specs.Vectors.{vectors_accessed}
 use Rattle.tt_exec_state.specs.WithAll.{VectorsStay, SettingsStay}
 use Rattle.tt_exec_state.specs.WithAll as of_settings
@@ -146,7 +148,7 @@ jrof_stays [] at m = λ other. refl
 with_definition_stays : (d : Definition) (f : Body) (m : MachineState)
     → with_definition d f (with_all_in m) ≡ with_all_in (with_definition d f m)
 with_definition_stays (definition.Function n) f m = refl
-with_definition_stays (definition.Instruction opcode) f m = flag (has_no_name opcode) _ _ _ _ refl refl
+with_definition_stays (definition.Instruction opcode) f m = flag (has_no_name m.instance opcode) _ _ _ _ refl refl
 
 defined_stays : (at : ℕ) (d : Definition) (m : MachineState) (r : Result ℕ Halt)
     → RunStays (defined at d m r) (defined at d (with_all_in m) r)
@@ -216,7 +218,7 @@ operate_stays k (op.evaluate o) at m = stack_stays at m (evaluated o m.graphics.
 operate_stays k (op.compute o) at m = stack_stays at m (computed o m.graphics.round m.stack)
 operate_stays k (op.access_values o) at m =
     places_stay at m (values_accessed o m.scale m.tolerance m.stack m.storage m.cvt)
-operate_stays k (op.answer o) at m = stack_stays at m (answered o m.ppem m.stack)
+operate_stays k (op.answer o) at m = stack_stays at m (answered o m.ppem m.instance m.stack)
 operate_stays k op.instctrl at m = instctrl_stays m.stack at m
 operate_stays k op.if_from at m = if_stays m.stack at m
 operate_stays k op.else_from at m = skipped_stays m (else_end m.frame.code.bytes at)
@@ -234,6 +236,9 @@ operate_stays k op.idef at m =
     either (may_define m.kind m.callers) _ _ _ _ (idef_from_stays m.stack at m) (refused m at why.DefinitionPlace)
 operate_stays k (op.beyond o) at m =
     beyond_stays m.graphics.whole m at (operate o at m) (operate o at (with_all_in m)) (operate_stays k o at m)
+operate_stays k (op.read_instance o opcode) at m =
+    either (has_instance m.instance) _ _ _ _ (stack_stays at m (variation_answered o m.instance m.stack))
+    (instruction_called_stays at m (function_at (pos opcode) m.instructions))
 operate_stays k (op.unnamed opcode) at m =
     instruction_called_stays at m (function_at (pos opcode) m.instructions)
 

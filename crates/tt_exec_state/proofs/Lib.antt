@@ -1,4 +1,5 @@
 pub mod Beside
+pub mod Places
 pub mod Sizes
 pub mod Tolerant
 mod WithAll

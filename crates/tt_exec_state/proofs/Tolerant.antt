@@ -17,6 +17,7 @@ use Rattle.tt_state.specs.declared.vector.Vector.{Vector}
 use Rattle.tt_points_zones.specs.ZoneNumbers.{zone_of}
 use Rattle.tt_exec_stack.specs.Stack.{is_value, pushed}
 use Rattle.tt_exec_stack.proofs.Takes.{of_one, of_two, short_of_one, short_of_two, either, pushed_total}
+use Rattle.tt_exec_state.specs.Instances.{has_instance}
 use Rattle.tt_exec_state.specs.Laws.{SettingIsLoosened, ValuesAreLoosened, SettingIsTotal, ValuesAreTotal, VectorsAreTotal, QueriesAreTotal, SettingIsShort, ValuesAreShort, VectorsAreShort, QueriesAreShort}
 use Rattle.tt_exec_state.specs.Queries as queries
 use Rattle.tt_exec_state.specs.Settings as settings
@@ -276,11 +277,11 @@ vectors_total op.Gfv s g enough = told_total g.free s g
 vectors_total op.Sfvtpv s g enough = record {}
 
 pub queries_total : QueriesAreTotal
-queries_total query.Mppem ppem s enough = pushed_total (pos ppem) s
-queries_total query.Mps ppem s enough = pushed_total (pos ppem) s
-queries_total query.Getinfo ppem s enough =
-    of_one queries.getinfo (λ n s. either (int_eq (int_rem_euclid n (pos 2)) (pos 1)) _ _ (pushed_total (pos 35) s)
-    (pushed_total (pos 0) s)) s enough
+queries_total query.Mppem ppem instance s enough = pushed_total (pos ppem) s
+queries_total query.Mps ppem instance s enough = pushed_total (pos ppem) s
+queries_total query.Getinfo ppem instance s enough =
+    of_one (queries.getinfo instance)
+    (λ n s. pushed_total (pos (queries.information (has_instance instance) n)) s) s enough
 
 -- too few values
 
@@ -331,6 +332,6 @@ vectors_short op.Gfv s g few = absurd (omega arith)
 vectors_short op.Sfvtpv s g few = absurd (omega arith)
 
 pub queries_short : QueriesAreShort
-queries_short query.Mppem ppem s few = absurd (omega arith)
-queries_short query.Mps ppem s few = absurd (omega arith)
-queries_short query.Getinfo ppem s few = short_of_one queries.getinfo refl s few
+queries_short query.Mppem ppem instance s few = absurd (omega arith)
+queries_short query.Mps ppem instance s few = absurd (omega arith)
+queries_short query.Getinfo ppem instance s few = short_of_one (queries.getinfo instance) refl s few

@@ -40,8 +40,8 @@ VectorsAreTotal = (o : Vectors) (s : List ℤ) (g : GraphicsState) → vectors.t
     → IsTotal (vectors.vectors_accessed o s g)
 
 abbrev pub QueriesAreTotal : Type 0
-QueriesAreTotal = (o : Query) (ppem : ℕ) (s : List ℤ) → queries.takes o ≤ length s
-    → IsTotal (queries.answered o ppem s)
+QueriesAreTotal = (o : Query) (ppem : ℕ) (instance s : List ℤ) → queries.takes o ≤ length s
+    → IsTotal (queries.answered o ppem instance s)
 
 -- with fewer values an instruction is refused
 abbrev pub SettingIsShort : Type 0
@@ -57,5 +57,5 @@ VectorsAreShort = (o : Vectors) (s : List ℤ) (g : GraphicsState) → length s 
     → vectors.vectors_accessed o s g ≡ Err why.StackShort
 
 abbrev pub QueriesAreShort : Type 0
-QueriesAreShort = (o : Query) (ppem : ℕ) (s : List ℤ) → length s < queries.takes o
-    → queries.answered o ppem s ≡ Err why.StackShort
+QueriesAreShort = (o : Query) (ppem : ℕ) (instance s : List ℤ) → length s < queries.takes o
+    → queries.answered o ppem instance s ≡ Err why.StackShort

@@ -1,7 +1,9 @@
+pub mod Instances
 pub mod Laws
 pub mod Queries
 pub mod Settings
 pub mod Size
 pub mod StoredValues
+pub mod Variations
 pub mod Vectors
 pub mod WithAll

@@ -47,6 +47,13 @@ pub enum Query {
     Getinfo,
 }
 
+/// The instructions that read the instance of a variable font.
+#[derive(Clone, Copy)]
+pub enum Variation {
+    Getvariation,
+    Getdata,
+}
+
 /// The instructions that set or read the projection and the freedom vector.
 #[derive(Clone, Copy)]
 pub enum Vectors {

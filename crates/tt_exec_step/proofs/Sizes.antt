@@ -23,6 +23,8 @@ use Rattle.tt_exec_state.specs.StoredValues.{values_accessed}
 use Rattle.tt_exec_stack.specs.Pushing.{pushed_bytes, pushed_words}
 use Rattle.tt_exec_state.specs.Queries.{answered}
 use Rattle.tt_exec_state.specs.Settings.{state_set}
+use Rattle.tt_exec_state.specs.Instances.{has_instance}
+use Rattle.tt_exec_state.specs.Variations.{variation_answered}
 use Rattle.tt_exec_state.specs.Vectors.{vectors_accessed}
 use Rattle.tt_exec_state.specs.declared.instruction.StoredValues.{StoredValues}
 use Rattle.tt_core.specs.Limits.{call_limit}
@@ -158,7 +160,8 @@ jrof_kept [] at m = tt
 -- functions
 with_definition_kept : (d : Definition) (f : Body) (m : MachineState) → Kept m (with_definition d f m)
 with_definition_kept (definition.Function n) f m = same m
-with_definition_kept (definition.Instruction opcode) f m = either (Kept m) (has_no_name opcode) _ _ (same m) (same m)
+with_definition_kept (definition.Instruction opcode) f m = either (Kept m) (has_no_name m.instance opcode) _ _
+    (same m) (same m)
 
 defined_kept : (at : ℕ) (d : Definition) (m : MachineState) (r : Result ℕ Halt) → Keeps m (defined at d m r)
 defined_kept at d m (Ok place) = with_definition_kept d _ m
@@ -215,7 +218,7 @@ operate_kept k j (op.compute o) at m has = on_stack_kept at m (computed o m.grap
 operate_kept k j (op.access_values o) at m has =
     on_places_kept at m (values_accessed o m.scale m.tolerance m.stack m.storage m.cvt)
     (j o m.scale m.tolerance m.stack m.storage m.cvt)
-operate_kept k j (op.answer o) at m has = on_stack_kept at m (answered o m.ppem m.stack)
+operate_kept k j (op.answer o) at m has = on_stack_kept at m (answered o m.ppem m.instance m.stack)
 operate_kept k j op.instctrl at m has = instctrl_kept m.stack at m
 operate_kept k j op.if_from at m has = if_kept m.stack at m
 operate_kept k j op.else_from at m has = skipped_kept m (else_end m.frame.code.bytes at)
@@ -233,6 +236,9 @@ operate_kept k j op.idef at m has =
     either (Keeps m) (may_define m.kind m.callers) _ _ (idef_from_kept m.stack at m) tt
 operate_kept k j (op.beyond o) at m has =
     either (Keeps m) m.graphics.whole _ _ (operate_kept k j o at m has) tt
+operate_kept k j (op.read_instance o opcode) at m has =
+    either (Keeps m) (has_instance m.instance) _ _ (on_stack_kept at m (variation_answered o m.instance m.stack))
+    (instruction_called_kept at m (function_at (pos opcode) m.instructions))
 operate_kept k j (op.unnamed opcode) at m has =
     instruction_called_kept at m (function_at (pos opcode) m.instructions)
 

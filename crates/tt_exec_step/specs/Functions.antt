@@ -1,10 +1,11 @@
 -- Apple TrueType Reference Manual, "Instruction set": defining and using functions. A state's place is after the
 -- instruction, which has a place of its own. The top of the stack comes first.
-use Rattle.std.specs.Prelude.{ℕ, ◌+◌, ◌-◌, ◌==◌, ◌||◌, ◌&&◌, nat_le, nat_lt, ℤ, pos, int_lt, unsigned_abs, Bool, true, false, if◌then◌else◌, List, [], ◌∷◌, length, Option, Some, None, Result, Ok, Err}
+use Rattle.std.specs.Prelude.{ℕ, ◌+◌, ◌-◌, ◌==◌, ◌||◌, ◌&&◌, nat_le, nat_lt, ℤ, pos, int_lt, unsigned_abs, Bool, true, false, not, if◌then◌else◌, List, [], ◌∷◌, length, Option, Some, None, Result, Ok, Err}
 use Rattle.tt_core.specs.Faults.{Fault}
 use Rattle.tt_core.specs.declared.fault.Why.TheVariants as why
 use Rattle.tt_code.specs.declared.decoding.Halt.{Halt}
 use Rattle.tt_code.specs.Skips.{definition_end}
+use Rattle.tt_exec_state.specs.Instances.{has_instance}
 use Rattle.tt_exec_step.specs.declared.machine_state.Kind.{Kind}
 use Rattle.tt_exec_step.specs.declared.machine_state.Kind.TheVariants as kind
 use Rattle.tt_exec_step.specs.declared.program.Definition.{Definition}
@@ -20,16 +21,24 @@ may_define kind.Font [] = true
 may_define kind.ControlValue [] = true
 may_define _ _ = false
 
+-- the opcodes of GETVARIATION and GETDATA
+abbrev pub is_of_instance : ℕ → Bool
+is_of_instance opcode = opcode == 0x91 || opcode == 0x92
+
 -- the opcodes without a name. A program may define only these: the manual lets IDEF define undefined opcodes.
-abbrev pub has_no_name : ℕ → Bool
-has_no_name opcode =
+abbrev pub is_undefined : ℕ → Bool
+is_undefined opcode =
     opcode == 0x28 || opcode == 0x7B || opcode == 0x83 || opcode == 0x84 || (nat_le 0x8F opcode && nat_le opcode 0xAF)
+
+-- At an instance GETVARIATION and GETDATA are names too.
+abbrev pub has_no_name : List ℤ → ℕ → Bool
+has_no_name instance opcode = is_undefined opcode && not (has_instance instance && is_of_instance opcode)
 
 -- a state with a definition; one of an opcode with a name adds nothing
 abbrev pub with_definition : Definition → Body → MachineState → MachineState
 with_definition (definition.Function n) f m = record m { functions = with_function n f m.functions }
 with_definition (definition.Instruction opcode) f m =
-    if has_no_name opcode then record m { instructions = with_function opcode f m.instructions } else m
+    if has_no_name m.instance opcode then record m { instructions = with_function opcode f m.instructions } else m
 
 -- a definition, from the end of its skip
 abbrev pub defined : ℕ → Definition → MachineState → Result ℕ Halt → Result MachineState Fault

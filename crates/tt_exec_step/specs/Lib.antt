@@ -20,3 +20,4 @@ pub mod WithAll
 pub use Rattle.tt_exec_points.specs.zones as zones
 pub use Rattle.tt_exec_points.specs as on_points
 pub use Rattle.tt_exec_stack.specs as stack
+pub use Rattle.tt_exec_state.specs as state

@@ -28,7 +28,7 @@ pub record CallFrame : Type 0 where
   pub left : ℕ
 
 -- The stack has its top first, the callers have the innermost first. Functions are listed by number, defined
--- instructions by opcode.
+-- instructions by opcode. The instance is the place on each axis of a variable font, in 2.14; the default has none.
 pub record MachineState : Type 0 where
   pub stack : List ℤ
   pub frame : CallFrame
@@ -44,6 +44,7 @@ pub record MachineState : Type 0 where
   pub default_state : Bool
   pub ppem : ℕ
   pub scale : Scale
+  pub instance : List ℤ
   pub kind : Kind
 
 -- a fault at a place, named by the table of the program with the instruction, and the offset there

@@ -9,6 +9,7 @@ use Rattle.tt_exec_stack.specs.declared.instruction.Managing.TheVariants as mana
 use Rattle.tt_exec_state.specs.declared.instruction.StoredValues.TheVariants as places
 use Rattle.tt_exec_state.specs.declared.instruction.Query.TheVariants as query
 use Rattle.tt_exec_state.specs.declared.instruction.GraphicsSetting.TheVariants as setting
+use Rattle.tt_exec_state.specs.declared.instruction.Variation.TheVariants as variation
 use Rattle.tt_exec_state.specs.declared.instruction.Vectors.TheVariants as vectors
 use Rattle.tt_code.specs.Decoding.{takes_data}
 use Rattle.tt_exec_points.specs.points.Distances.{keeping}
@@ -46,9 +47,16 @@ opcodes_beyond =
     (0x89, op.beyond op.idef) ∷
     []
 
+-- of variable fonts; without an instance these opcodes have no name
+abbrev pub opcodes_of_instance : List (ℕ × Operation)
+opcodes_of_instance =
+    (0x91, op.read_instance variation.Getvariation 0x91) ∷
+    (0x92, op.read_instance variation.Getdata 0x92) ∷
+    []
+
 -- an opcode in no table of the profile
 abbrev pub apart : ℕ → Operation
-apart opcode = found (op.unnamed opcode) opcode opcodes_beyond
+apart opcode = found (found (op.unnamed opcode) opcode opcodes_of_instance) opcode opcodes_beyond
 
 abbrev pub named : ℕ → List (ℕ × Operation) → Operation
 named opcode table = found (apart opcode) opcode table
@@ -245,7 +253,7 @@ is_beyond (op.beyond o) = true
 is_beyond _ = false
 
 -- every opcode without an instruction: one missing in a table would be listed here
-no_instruction : those is_unnamed (from 0 256) ≡ 0x28 ∷ 0x7B ∷ 0x83 ∷ 0x84 ∷ from 0x8F 33
+no_instruction : those is_unnamed (from 0 256) ≡ 0x28 ∷ 0x7B ∷ 0x83 ∷ 0x84 ∷ 0x8F ∷ 0x90 ∷ from 0x93 29
 no_instruction = refl
 
 -- SPVTL, SFVTL, ISECT, ALIGNPTS, DEBUG, S45ROUND, SDPVTL and IDEF: every opcode beyond the profile
@@ -277,6 +285,12 @@ sdpvtl_turned = refl
 
 idef : operation_of 0x89 ≡ op.beyond op.idef
 idef = refl
+
+getvariation : operation_of 0x91 ≡ op.read_instance variation.Getvariation 0x91
+getvariation = refl
+
+getdata : operation_of 0x92 ≡ op.read_instance variation.Getdata 0x92
+getdata = refl
 
 -- on the stack and on settings
 svtca_x : operation_of 0x01 ≡ op.access_vectors (vectors.Svtca axis.X)

@@ -7,6 +7,7 @@ use Rattle.tt_exec_stack.specs.declared.instruction.Managing.{Managing}
 use Rattle.tt_exec_state.specs.declared.instruction.StoredValues.{StoredValues}
 use Rattle.tt_exec_state.specs.declared.instruction.Query.{Query}
 use Rattle.tt_exec_state.specs.declared.instruction.GraphicsSetting.{GraphicsSetting}
+use Rattle.tt_exec_state.specs.declared.instruction.Variation.{Variation}
 use Rattle.tt_exec_state.specs.declared.instruction.Vectors.{Vectors}
 use Rattle.tt_exec_points.specs.declared.instruction.OnPoints.{OnPoints}
 use Rattle.tt_exec_stack.specs.Arithmetic as arithmetic
@@ -34,6 +35,8 @@ pub data Operation : Type 0 where
   idef : Operation
   -- an instruction that is refused without the whole instruction set (profile)
   beyond : Operation → Operation
+  -- an instruction of variable fonts; without an instance its opcode has no name
+  read_instance : Variation → ℕ → Operation
   -- an opcode without a name: a program may define it
   unnamed : ℕ → Operation
 
@@ -60,4 +63,5 @@ takes loopcall = 2
 takes (on_points o) = points.takes o
 takes idef = 1
 takes (beyond o) = takes o
+takes (read_instance o opcode) = 0
 takes (unnamed opcode) = 0

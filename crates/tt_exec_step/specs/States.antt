@@ -1,4 +1,5 @@
 -- No part of the standard: a machine as contracts see it.
+use Rattle.tt_exec_state.specs.Instances.{instance_of}
 use Rattle.tt_exec_step.specs.declared.machine_state.MachineState as declared
 use Rattle.tt_exec_step.specs.MachineState.{MachineState}
 use Rattle.tt_exec_step.specs.Views.{frame_of}
@@ -19,5 +20,6 @@ state_of m = record {
   default_state = m.default_state;
   ppem = m.size.ppem;
   scale = m.size.scale;
+  instance = instance_of m.instance;
   kind = m.kind;
 }

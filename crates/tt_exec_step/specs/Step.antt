@@ -14,8 +14,10 @@ use Rattle.tt_exec_stack.specs.Managing.{managed}
 use Rattle.tt_exec_state.specs.StoredValues.{values_accessed}
 use Rattle.tt_exec_stack.specs.Stack.{padded}
 use Rattle.tt_exec_stack.specs.Pushing.{pushed_bytes, pushed_words}
+use Rattle.tt_exec_state.specs.Instances.{has_instance}
 use Rattle.tt_exec_state.specs.Queries.{answered}
 use Rattle.tt_exec_state.specs.Settings.{state_set}
+use Rattle.tt_exec_state.specs.Variations.{variation_answered}
 use Rattle.tt_exec_state.specs.Vectors.{vectors_accessed}
 use Rattle.tt_exec_step.specs.Flags.{instctrl}
 use Rattle.tt_exec_step.specs.Flow.{goes_to, if_from, else_from, jmpr, jrot, jrof}
@@ -60,7 +62,7 @@ operate (op.evaluate o) at m = on_stack at m (evaluated o m.graphics.round m.sta
 operate (op.compute o) at m = on_stack at m (computed o m.graphics.round m.stack)
 operate (op.access_values o) at m = on_places at m
     (values_accessed o m.scale m.tolerance m.stack m.storage m.cvt)
-operate (op.answer o) at m = on_stack at m (answered o m.ppem m.stack)
+operate (op.answer o) at m = on_stack at m (answered o m.ppem m.instance m.stack)
 operate op.instctrl at m = instctrl m.stack at m
 operate op.if_from at m = if_from m.stack at m
 operate op.else_from at m = else_from at m
@@ -75,6 +77,9 @@ operate op.loopcall at m = loopcall m.stack at m
 operate (op.on_points o) at m = on_points o at m
 operate op.idef at m = idef at m
 operate (op.beyond o) at m = if m.graphics.whole then operate o at m else Err (fault_in m.frame at why.OffProfile)
+operate (op.read_instance o opcode) at m =
+    if has_instance m.instance then on_stack at m (variation_answered o m.instance m.stack)
+    else instruction_called at m (function_at (pos opcode) m.instructions)
 operate (op.unnamed opcode) at m = instruction_called at m (function_at (pos opcode) m.instructions)
 
 -- an operation did as defined, or is refused, from one state to another

@@ -2,10 +2,12 @@
 //! tt_exec_points. `at` is the instruction's place. Apple TrueType Reference Manual, "Instruction set".
 
 ghost use Rattle.std.specs.Prelude.{◌≡◌, ◌<◌, ◌≤◌, length, false};
+ghost use Rattle.tt_exec_state.specs.Instances.{instance_of};
+ghost use Rattle.tt_exec_state.specs.Variations.{variation_answered};
 ghost use Rattle.tt_exec_step.specs.OnPoints.{on_points};
 ghost use Rattle.tt_exec_step.specs.Operation as operation;
 ghost use Rattle.tt_exec_step.specs.States.{state_of};
-ghost use Rattle.tt_exec_step.specs.Step.{push, Operates};
+ghost use Rattle.tt_exec_step.specs.Step.{on_stack, push, Operates};
 ghost use Rattle.tt_exec_step.specs.Outcome.{ComesTo, wants_memory};
 
 use crate::machine_state::MachineState;
@@ -15,7 +17,8 @@ use tt_exec_stack::{
     Arithmetic, Logic, Managing, compute, evaluate, manage, push_bytes, push_words,
 };
 use tt_exec_state::{
-    GraphicsSetting, Query, StoredValues, Vectors, access_values, access_vectors, answer, set_state,
+    GraphicsSetting, Query, StoredValues, Variation, Vectors, access_values, access_vectors,
+    answer, answer_variation, set_state,
 };
 
 /// The outcome of an instruction, from its result.
@@ -116,7 +119,17 @@ impl MachineState<'_> {
         ensures exact { Operates (operation.answer op) at (state_of self.old) (state_of self.new) result }
         ensures memory { wants_memory result ≡ false }
     {
-        outcome!(answer(op, self.size, &mut self.stack))
+        outcome!(answer(op, self.size, &self.instance, &mut self.stack))
+    }
+
+    /// An instruction that reads the instance of a variable font.
+    pub(crate) fn answer_variation(&mut self, op: Variation, at: usize) -> Outcome
+        requires { at ≤ length self.old.frame.code.bytes.now }
+        ensures exact { let given = on_stack at (state_of self.old) (variation_answered op (instance_of self.old.instance) self.old.stack) in
+            ComesTo given at (state_of self.new) result }
+        ensures memory { wants_memory result ≡ false }
+    {
+        outcome!(answer_variation(op, &self.instance, &mut self.stack))
     }
 
     /// An instruction that works on points, or DELTAC[].

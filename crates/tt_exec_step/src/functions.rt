@@ -2,6 +2,7 @@
 //! the frame's place is after it.
 
 ghost use Rattle.std.specs.Prelude.{◌≡◌, ◌+◌, ◌<◌, ◌≤◌, ◌^◌, pos, length, OnOk, false};
+ghost use Rattle.tt_exec_state.specs.Instances.{instance_of};
 ghost use Rattle.tt_exec_step.specs.Functions as is;
 ghost use Rattle.tt_exec_step.specs.Numbered.{function_at};
 ghost use Rattle.tt_exec_step.specs.Views.{body_of};
@@ -16,14 +17,21 @@ use std::alloc::AllocError;
 use tt_code::skip_def;
 use tt_core::{CALL_LIMIT, Why};
 
-/// Whether an opcode has no name. A program may define such an opcode.
-fn has_no_name(op: u8) -> bool
-    ensures { result ≡ is.has_no_name op }
+/// Whether the manual has no name for an opcode.
+fn is_undefined(op: u8) -> bool
+    ensures { result ≡ is.is_undefined op }
 {
     match op {
         0x28 | 0x7B | 0x83 | 0x84 => true,
         _ => 0x8F <= op && op <= 0xAF,
     }
+}
+
+/// Whether an opcode is GETVARIATION or GETDATA.
+fn is_of_instance(op: u8) -> bool
+    ensures { result ≡ is.is_of_instance op }
+{
+    op == 0x91 || op == 0x92
 }
 
 impl<'a> MachineState<'a> {
@@ -37,13 +45,21 @@ impl<'a> MachineState<'a> {
         }
     }
 
+    /// Whether an opcode has no name. A program may define such an opcode. GETVARIATION and GETDATA are names at an
+    /// instance alone.
+    fn has_no_name(&self, op: u8) -> bool
+        ensures { result ≡ is.has_no_name (instance_of self.now.instance) op }
+    {
+        is_undefined(op) && !(self.instance.is_some() && is_of_instance(op))
+    }
+
     /// Adds a definition. One of an opcode with a name is ignored. Error: Memory.
     fn keep(&mut self, definition: Definition, body: Body<'a>) -> Result<(), AllocError>
         ensures { OnOk result (state_of self.new ≡ is.with_definition definition (body_of body.entry) (state_of self.old)) }
     {
         match definition {
             Definition::Function(n) => self.functions.set(n, body),
-            Definition::Instruction(op) if has_no_name(op) => {
+            Definition::Instruction(op) if self.has_no_name(op) => {
                 self.instructions.set(u16::from(op), body)
             }
             Definition::Instruction(_) => Ok(()),

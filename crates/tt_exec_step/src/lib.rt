@@ -38,4 +38,4 @@ pub use program::{Body, CallFrame, Code, Definition};
 pub use table::fixed_work;
 pub use tt_exec_points::{Originals, Points, Zones};
 pub use tt_exec_stack::Stack;
-pub use tt_exec_state::Size;
+pub use tt_exec_state::{Instance, Size};

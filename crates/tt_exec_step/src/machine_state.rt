@@ -10,7 +10,7 @@ use crate::function_table::Functions;
 use crate::program::{CallFrame, Code};
 use tt_exec_points::Points;
 use tt_exec_stack::Stack;
-use tt_exec_state::Size;
+use tt_exec_state::{Instance, Size};
 use tt_state::{GraphicsState, Tolerance};
 
 /// The kind of the running program. It decides whether functions may be defined and flags set.
@@ -42,6 +42,7 @@ pub struct MachineState<'a> {
     pub skip_glyphs: bool,
     pub default_state: bool,
     pub size: Size,
+    pub instance: Instance,
     pub kind: Kind,
 }
 

@@ -17,7 +17,7 @@ use tt_exec_points::{
     ReferencePoint,
 };
 use tt_exec_stack::{Arithmetic, Logic, Managing};
-use tt_exec_state::{GraphicsSetting, Query, StoredValues, Vectors};
+use tt_exec_state::{GraphicsSetting, Query, StoredValues, Variation, Vectors};
 use tt_state::{Axis, Round};
 
 /// Whether an opcode has the bit with this value.
@@ -78,9 +78,20 @@ impl MachineState<'_> {
         self.idef(at)
     }
 
-    /// SPVTL[], SFVTL[], SDPVTL[], ISECT[], ALIGNPTS[], S45ROUND[], DEBUG[], IDEF[], and opcodes without a name. These
-    /// are rare: with them apart, the others are one function. Errors: OffProfile of those with a name, without the
-    /// whole instruction set; those of the instruction.
+    /// GETVARIATION[], 0x91; GETDATA[], 0x92. Without an instance the opcode has no name.
+    fn read_instance(&mut self, variation: Variation, op: u8, at: usize) -> Outcome
+        requires { at < length self.old.frame.code.bytes.now }
+        ensures { Operates (operation.read_instance variation op) at (state_of self.old) (state_of self.new) result }
+    {
+        if self.instance.is_some() {
+            return self.answer_variation(variation, at);
+        }
+        self.call_instruction(op, at)
+    }
+
+    /// SPVTL[], SFVTL[], SDPVTL[], ISECT[], ALIGNPTS[], S45ROUND[], DEBUG[], IDEF[], GETVARIATION[], GETDATA[], and
+    /// opcodes without a name. These are rare: with them apart, the others are one function. Errors: OffProfile of those
+    /// that only the whole instruction set has, without that set; those of the instruction.
     #[cold]
     #[tactic(auto, unfolding(crate::specs::Opcodes::apart))]
     fn operate_apart(&mut self, op: u8, at: usize) -> Outcome
@@ -99,6 +110,8 @@ impl MachineState<'_> {
             0x86 => self.on_lines(OnLines::Sdpvtl { turned: false }, at),
             0x87 => self.on_lines(OnLines::Sdpvtl { turned: true }, at),
             0x89 => self.define_instruction(at),
+            0x91 => self.read_instance(Variation::Getvariation, 0x91, at),
+            0x92 => self.read_instance(Variation::Getdata, 0x92, at),
             _ => self.call_instruction(op, at),
         }
     }

@@ -1,5 +1,5 @@
 -- Which glyphs are unfitted, and their outlines.
-use Rattle.std.proofs.Common.{◌≡◌, ◌≢◌, ◌∙◌, sym, ap, ℕ, true, Option, Some, None, Result, Ok, Err, OnOk, refl}
+use Rattle.std.proofs.Common.{◌≡◌, ◌≢◌, ◌∙◌, sym, ap, ℕ, true, Option, Some, None, Result, Ok, Err, OnOk, refl, ℤ, List}
 use Rattle.tt_core.specs.Faults.{Fault}
 use Rattle.tt_core.specs.declared.font_fault.FontFault.{FontFault}
 use Rattle.tt_core.specs.declared.font_fault.FontFault.TheVariants as font
@@ -143,20 +143,21 @@ unbounded-by m tables ppem fit.Fallback who s worked (Err f) other is =
     rw (← same) refl
 unbounded-by m tables ppem fit.Best who s worked left other is = absurd (other refl)
 
-programs-unbounded : (m : Metrics) (programs : ProgramTables) (ppem : ℕ) (how : Fit) → how ≢ fit.Best
-    → ProgramsHaveWork m programs ppem how
-programs-unbounded m programs ppem fit.Full other = (None, of-left m programs ppem fit.Full)
-programs-unbounded m programs ppem fit.None other = (None, of-left m programs ppem fit.None)
-programs-unbounded m programs ppem fit.Fallback other = (None, of-left m programs ppem fit.Fallback)
-programs-unbounded m programs ppem fit.Best other = absurd (other refl)
+programs-unbounded : (m : Metrics) (programs : ProgramTables) (instance : List ℤ) (ppem : ℕ) (how : Fit)
+    → how ≢ fit.Best
+    → ProgramsHaveWork m programs instance ppem how
+programs-unbounded m programs instance ppem fit.Full other = (None, of-left m programs instance ppem fit.Full)
+programs-unbounded m programs instance ppem fit.None other = (None, of-left m programs instance ppem fit.None)
+programs-unbounded m programs instance ppem fit.Fallback other = (None, of-left m programs instance ppem fit.Fallback)
+programs-unbounded m programs instance ppem fit.Best other = absurd (other refl)
 
 pub others-are-unbounded : OthersAreUnbounded
 unfolding fitter_of prepared
-others-are-unbounded m tables programs ppem how s other is =
+others-are-unbounded m tables programs instance ppem how s other is =
     let who = dropouts_by how in
-    let worked = work_at m programs ppem how in (
-      unbounded-by m tables ppem how who s worked (left_at m programs ppem how) other is,
-      programs-unbounded m programs ppem how other,
+    let worked = work_at m programs instance ppem how in (
+      unbounded-by m tables ppem how who s worked (left_at m programs instance ppem how) other is,
+      programs-unbounded m programs instance ppem how other,
     )
 
 stays : (fallback : Fallback) (worked : Worked) (left : Option ℕ) → worked ≡ enough left
@@ -195,10 +196,11 @@ over-by m tables ppem who s g f (spent told) left over is =
 
 pub spent-programs-unfit-all : SpentProgramsUnfitAll
 unfolding fitter_of prepared
-spent-programs-unfit-all m tables programs ppem fit.Full s g f falls is over = absurd cc
-spent-programs-unfit-all m tables programs ppem fit.None s g f falls is over = absurd cc
-spent-programs-unfit-all m tables programs ppem fit.Fallback s g f falls is over =
-    let free : work_at m programs ppem fit.Fallback ≡ enough None = of-left m programs ppem fit.Fallback in absurd cc
-spent-programs-unfit-all m tables programs ppem fit.Best s g f falls is over =
+spent-programs-unfit-all m tables programs instance ppem fit.Full s g f falls is over = absurd cc
+spent-programs-unfit-all m tables programs instance ppem fit.None s g f falls is over = absurd cc
+spent-programs-unfit-all m tables programs instance ppem fit.Fallback s g f falls is over =
+    let free : work_at m programs instance ppem fit.Fallback ≡ enough None = of-left m programs instance ppem fit.Fallback in absurd cc
+spent-programs-unfit-all m tables programs instance ppem fit.Best s g f falls is over =
     let who = dropouts_by fit.Best in
-    over-by m tables ppem who s g f (work_at m programs ppem fit.Best) (left_at m programs ppem fit.Best) over is
+    over-by m tables ppem who s g f (work_at m programs instance ppem fit.Best)
+    (left_at m programs instance ppem fit.Best) over is

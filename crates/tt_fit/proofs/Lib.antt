@@ -3,6 +3,7 @@ pub mod Hintings
 pub mod Falling
 pub mod GlyphPrograms
 pub mod GlyphCosts
+pub mod Instances
 pub mod Levels
 pub mod MadeFor
 pub mod Placing

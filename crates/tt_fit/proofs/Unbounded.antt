@@ -1,5 +1,5 @@
 -- Unbounded work is always enough.
-use Rattle.std.proofs.Common.{◌≡◌, ℕ, zero, suc, Bool, true, false, if◌then◌else◌, List, [], ◌∷◌, Option, None, Result, Ok, Err, ◌⊎◌, inl, inr, ap, refl}
+use Rattle.std.proofs.Common.{◌≡◌, ℕ, zero, suc, Bool, true, false, if◌then◌else◌, List, [], ◌∷◌, Option, None, Result, Ok, Err, ◌⊎◌, inl, inr, ap, refl, ℤ}
 use Rattle.tt_core.specs.Faults.{Fault}
 use Rattle.tt_fit_hinting.proofs.machine.WorkPaid.{unbounded}
 use Rattle.tt_fit_hinting.specs.machine.Machines.{fresh, run_from}
@@ -119,10 +119,10 @@ of-programs parts programs =
     (λ font. code_work (control_value_program programs.prep) (with_definitions parts font)) None
     (λ font. of-code (control_value_program programs.prep) (with_definitions parts font)))
 
-pub of-left : (m : Metrics) (programs : ProgramTables) (ppem : ℕ) (how : Fit)
-    → work_from m programs ppem how None ≡ enough None
-of-left m programs ppem how =
-    let parts = begun_at m programs ppem how in
+pub of-left : (m : Metrics) (programs : ProgramTables) (instance : List ℤ) (ppem : ℕ) (how : Fit)
+    → work_from m programs instance ppem how None ≡ enough None
+of-left m programs instance ppem how =
+    let parts = begun_at m programs instance ppem how in
     where-run (runs_programs how programs.fpgm programs.prep) (programs_work parts programs None)
     (of-programs parts programs)
 
@@ -135,19 +135,20 @@ told-free : (worked : Worked) (left : Result Hinting Fault) → worked ≡ enoug
 told-free worked left free = rw free (ap Ok (within left))
 
 -- Fallback prepares the same result whether work is counted or not
-pub prepared-falling : (m : Metrics) (programs : ProgramTables) (ppem : ℕ) (how : Fit)
+pub prepared-falling : (m : Metrics) (programs : ProgramTables) (instance : List ℤ) (ppem : ℕ) (how : Fit)
     → (how ≡ fit.Fallback) ⊎ (how ≡ fit.Best)
-    → prepared m programs ppem how ≡ Ok (within_work (work_at m programs ppem how) (left_at m programs ppem how))
+    → prepared m programs instance ppem how ≡ Ok
+    (within_work (work_at m programs instance ppem how) (left_at m programs instance ppem how))
 unfolding prepared
-prepared-falling m programs ppem fit.Fallback is =
-    told-free (work_at m programs ppem fit.Fallback) (left_at m programs ppem fit.Fallback)
-    (of-left m programs ppem fit.Fallback)
-prepared-falling m programs ppem fit.Best is = refl
-prepared-falling m programs ppem fit.Full is = elim is [
+prepared-falling m programs instance ppem fit.Fallback is =
+    told-free (work_at m programs instance ppem fit.Fallback) (left_at m programs instance ppem fit.Fallback)
+    (of-left m programs instance ppem fit.Fallback)
+prepared-falling m programs instance ppem fit.Best is = refl
+prepared-falling m programs instance ppem fit.Full is = elim is [
   | inl fallback ↦ absurd cc
   | inr best ↦ absurd cc
 ]
-prepared-falling m programs ppem fit.None is = elim is [
+prepared-falling m programs instance ppem fit.None is = elim is [
   | inl fallback ↦ absurd cc
   | inr best ↦ absurd cc
 ]

@@ -1,6 +1,6 @@
 -- Laws of hinting. Where it is off, the outline is that of a font without programs and without rounded offsets. Where it
 -- is on, the ends of a simple glyph's advance are whole pixels.
-use Rattle.std.specs.Prelude.{◌≡◌, ◌≢◌, ℕ, zero, suc, ◌-◌, ◌^◌, true, false, ℤ, pos, neg_ℤ, ◌-ℤ◌, ◌*ℤ◌, bit_and, [], map, Some, None, Result, Ok, Err, refl}
+use Rattle.std.specs.Prelude.{◌≡◌, ◌≢◌, ℕ, zero, suc, ◌-◌, ◌^◌, true, false, ℤ, pos, neg_ℤ, ◌-ℤ◌, ◌*ℤ◌, bit_and, [], map, Some, None, Result, Ok, Err, refl, List}
 use Rattle.tt_core.specs.Faults.{Fault}
 use Rattle.tt_core.specs.declared.fault.Why.TheVariants as why
 use Rattle.tt_core.specs.Outcomes.{◌>>=◌}
@@ -28,27 +28,33 @@ use Rattle.tt_fit_outline.specs.Steps.{at_least_zero, step_of}
 
 -- with Best, halves go up where hinting is on; with every other fit they go away from zero, whatever the hinting
 abbrev pub BestRoundsWhereHinted : Type 0
-BestRoundsWhereHinted = (m : Metrics) (tables : Glyf) (programs : ProgramTables) (ppem : ℕ) (s : Fitter)
-    → fitter_of m tables programs ppem fit.Best ≡ Ok s → s.grid ≡ grid_rule.WhereHinted
+BestRoundsWhereHinted = (m : Metrics) (tables : Glyf) (programs : ProgramTables) (instance : List ℤ) (ppem : ℕ)
+    (s : Fitter)
+    → fitter_of m tables programs instance ppem fit.Best ≡ Ok s → s.grid ≡ grid_rule.WhereHinted
 
 abbrev pub OthersRoundAlways : Type 0
-OthersRoundAlways = (m : Metrics) (tables : Glyf) (programs : ProgramTables) (ppem : ℕ) (how : Fit) (s : Fitter)
-    → how ≢ fit.Best → fitter_of m tables programs ppem how ≡ Ok s → glyph_grid s ≡ rounding.Away
+OthersRoundAlways = (m : Metrics) (tables : Glyf) (programs : ProgramTables) (instance : List ℤ) (ppem : ℕ)
+    (how : Fit) (s : Fitter)
+    → how ≢ fit.Best → fitter_of m tables programs instance ppem how ≡ Ok s → glyph_grid s ≡ rounding.Away
 
 -- with Best, hinting is off for every glyph of a font whose two programs are both empty
 abbrev pub EmptyIsOff : Type 0
-EmptyIsOff = (m : Metrics) (tables : Glyf) (programs : ProgramTables) (ppem : ℕ) (s : Fitter) (g : ℕ)
-    → AreEmpty programs → fitter_of m tables programs ppem fit.Best ≡ Ok s → is_hinted s g ≡ false
+EmptyIsOff = (m : Metrics) (tables : Glyf) (programs : ProgramTables) (instance : List ℤ) (ppem : ℕ) (s : Fitter)
+    (g : ℕ)
+    → AreEmpty programs → fitter_of m tables programs instance ppem fit.Best ≡ Ok s → is_hinted s g ≡ false
 
 -- and no glyph of such a font is unfitted
 abbrev pub LeftoversFit : Type 0
-LeftoversFit = (m : Metrics) (tables : Glyf) (programs : ProgramTables) (ppem : ℕ) (s : Fitter) (g : ℕ)
-    → AreEmpty programs → fitter_of m tables programs ppem fit.Best ≡ Ok s → unfitted_fault s g ≡ None
+LeftoversFit = (m : Metrics) (tables : Glyf) (programs : ProgramTables) (instance : List ℤ) (ppem : ℕ) (s : Fitter)
+    (g : ℕ)
+    → AreEmpty programs → fitter_of m tables programs instance ppem fit.Best ≡ Ok s → unfitted_fault s g ≡ None
 
 -- hinting is off where the control value program switched glyph programs off
 abbrev pub SwitchedIsOff : Type 0
-SwitchedIsOff = (m : Metrics) (tables : Glyf) (programs : ProgramTables) (ppem : ℕ) (s : Fitter) (g : ℕ)
-    → SwitchedOff m programs ppem → fitter_of m tables programs ppem fit.Best ≡ Ok s → is_hinted s g ≡ false
+SwitchedIsOff = (m : Metrics) (tables : Glyf) (programs : ProgramTables) (instance : List ℤ) (ppem : ℕ) (s : Fitter)
+    (g : ℕ)
+    → SwitchedOff m programs instance ppem → fitter_of m tables programs instance ppem fit.Best ≡ Ok s
+    → is_hinted s g ≡ false
 
 -- and for an unfitted glyph
 abbrev pub UnfittedIsOff : Type 0

@@ -1,6 +1,6 @@
 -- Laws of the definitions. An outline has no defect, and a fault names one. A fit that falls back gives the outline of
 -- its programs alone, or the one without programs. The last laws give the dropout rules.
-use Rattle.std.specs.Prelude.{◌≡◌, ◌≢◌, ℕ, ◌≤◌, true, false, List, [], All, Option, Some, None, Result, Ok, Err, refl}
+use Rattle.std.specs.Prelude.{◌≡◌, ◌≢◌, ℕ, ◌≤◌, true, false, List, [], All, Option, Some, None, Result, Ok, Err, refl, ℤ}
 use Rattle.tt_core.specs.Directory.{HasNo}
 use Rattle.tt_core.specs.Faults.{Fault}
 use Rattle.tt_core.specs.Limits.{work_limit}
@@ -40,18 +40,18 @@ abbrev pub OutlineFaultsStand : Type 0
 OutlineFaultsStand = (s : Fitter) (g : ℕ) (fault : Fault) → fitted_outline s g ≡ Err fault → IsOutlineDefect s g fault
 
 -- the fitter by the programs alone, by the rules of a fit: the first fault is the answer
-abbrev pub fitter_by_programs : Metrics → Glyf → ProgramTables → ℕ → Fit → Result Fitter Fault
-fitter_by_programs m tables programs ppem how =
-    left_at m programs ppem how >>= λ hinting. Ok (fitter_with m tables ppem how hinting never None)
+abbrev pub fitter_by_programs : Metrics → Glyf → ProgramTables → List ℤ → ℕ → Fit → Result Fitter Fault
+fitter_by_programs m tables programs instance ppem how =
+    left_at m programs instance ppem how >>= λ hinting. Ok (fitter_with m tables ppem how hinting never None)
 
 -- the fitter without programs
 abbrev pub fitter_without_programs : Metrics → Glyf → ℕ → Fit → Fitter
 fitter_without_programs m tables ppem how = fitter_with m tables ppem how off never None
 
 -- the outline of a glyph of a font at a size by its programs alone
-abbrev pub outline_by_programs : Metrics → Glyf → ProgramTables → ℕ → Fit → ℕ → Result Outline Fault
-outline_by_programs m tables programs ppem how g =
-    fitter_by_programs m tables programs ppem how >>= λ s. fitted_outline s g
+abbrev pub outline_by_programs : Metrics → Glyf → ProgramTables → List ℤ → ℕ → Fit → ℕ → Result Outline Fault
+outline_by_programs m tables programs instance ppem how g =
+    fitter_by_programs m tables programs instance ppem how >>= λ s. fitted_outline s g
 
 -- the outline of this glyph without programs
 abbrev pub outline_without_programs : Metrics → Glyf → ℕ → Fit → ℕ → Result Outline Fault
@@ -62,56 +62,67 @@ abbrev pub HasWork : Fitter → ℕ → Type 0
 HasWork s g = IsEnough (glyph_work s g s.work)
 
 -- the job's budget covers the font's two programs
-abbrev pub ProgramsHaveWork : Metrics → ProgramTables → ℕ → Fit → Type 0
-ProgramsHaveWork m programs ppem how = IsEnough (work_at m programs ppem how)
+abbrev pub ProgramsHaveWork : Metrics → ProgramTables → List ℤ → ℕ → Fit → Type 0
+ProgramsHaveWork m programs instance ppem how = IsEnough (work_at m programs instance ppem how)
 
 -- with a fit that falls back, a glyph that has an outline by the programs has this one
 abbrev pub FallbackFits : Type 0
-FallbackFits = (m : Metrics) (tables : Glyf) (programs : ProgramTables) (ppem : ℕ) (how : Fit) (s : Fitter) (g : ℕ)
-    (o : Outline) → falls_back how ≡ true → fitter_of m tables programs ppem how ≡ Ok s
-    → ProgramsHaveWork m programs ppem how → HasWork s g
-    → outline_by_programs m tables programs ppem how g ≡ Ok o
+FallbackFits = (m : Metrics) (tables : Glyf) (programs : ProgramTables) (instance : List ℤ) (ppem : ℕ) (how : Fit)
+    (s : Fitter) (g : ℕ)
+    (o : Outline) → falls_back how ≡ true → fitter_of m tables programs instance ppem how ≡ Ok s
+    → ProgramsHaveWork m programs instance ppem how → HasWork s g
+    → outline_by_programs m tables programs instance ppem how g ≡ Ok o
     → (fitted_outline s g ≡ Ok o) × (unfitted_fault s g ≡ None)
 
 -- after a program's fault the glyph is made as without programs, and the fault is recorded
 abbrev pub FallbackScales : Type 0
-FallbackScales = (m : Metrics) (tables : Glyf) (programs : ProgramTables) (ppem : ℕ) (how : Fit) (s : Fitter) (g : ℕ)
-    (fault : Fault) → falls_back how ≡ true → fitter_of m tables programs ppem how ≡ Ok s
-    → ProgramsHaveWork m programs ppem how → HasWork s g
-    → outline_by_programs m tables programs ppem how g ≡ Err fault → is_program_fault fault ≡ true
+FallbackScales = (m : Metrics) (tables : Glyf) (programs : ProgramTables) (instance : List ℤ) (ppem : ℕ) (how : Fit)
+    (s : Fitter) (g : ℕ)
+    (fault : Fault) → falls_back how ≡ true → fitter_of m tables programs instance ppem how ≡ Ok s
+    → ProgramsHaveWork m programs instance ppem how → HasWork s g
+    → outline_by_programs m tables programs instance ppem how g ≡ Err fault → is_program_fault fault ≡ true
     → (fitted_outline s g ≡ outline_without_programs m tables ppem how g) × (unfitted_fault s g ≡ Some fault)
 
 -- any other fault is unchanged
 abbrev pub FallbackRefuses : Type 0
-FallbackRefuses = (m : Metrics) (tables : Glyf) (programs : ProgramTables) (ppem : ℕ) (how : Fit)
-    (alone s : Fitter) (g : ℕ) (fault : Fault) → falls_back how ≡ true → fitter_of m tables programs ppem how ≡ Ok s
-    → ProgramsHaveWork m programs ppem how → HasWork s g
-    → fitter_by_programs m tables programs ppem how ≡ Ok alone → fitted_outline alone g ≡ Err fault
+FallbackRefuses = (m : Metrics) (tables : Glyf) (programs : ProgramTables) (instance : List ℤ) (ppem : ℕ) (how : Fit)
+    (alone s : Fitter) (g : ℕ) (fault : Fault) → falls_back how ≡ true
+    → fitter_of m tables programs instance ppem how ≡ Ok s
+    → ProgramsHaveWork m programs instance ppem how → HasWork s g
+    → fitter_by_programs m tables programs instance ppem how ≡ Ok alone → fitted_outline alone g ≡ Err fault
     → is_program_fault fault ≡ false
     → (fitted_outline s g ≡ Err fault) × (unfitted_fault s g ≡ None)
 
 -- a fault of the font program or the control value program makes every glyph unfitted
 abbrev pub FallbackUnfitsAll : Type 0
-FallbackUnfitsAll = (m : Metrics) (tables : Glyf) (programs : ProgramTables) (ppem : ℕ) (how : Fit) (s : Fitter)
-    (g : ℕ) (fault : Fault) → falls_back how ≡ true → fitter_of m tables programs ppem how ≡ Ok s
-    → ProgramsHaveWork m programs ppem how → fitter_by_programs m tables programs ppem how ≡ Err fault
+FallbackUnfitsAll = (m : Metrics) (tables : Glyf) (programs : ProgramTables) (instance : List ℤ) (ppem : ℕ)
+    (how : Fit) (s : Fitter)
+    (g : ℕ) (fault : Fault) → falls_back how ≡ true → fitter_of m tables programs instance ppem how ≡ Ok s
+    → ProgramsHaveWork m programs instance ppem how → fitter_by_programs m tables programs instance ppem how ≡ Err fault
     → (fitted_outline s g ≡ outline_without_programs m tables ppem how g) × (unfitted_fault s g ≡ Some fault)
 
 -- with another fit no glyph is unfitted
 abbrev pub OthersNeverFallBack : Type 0
-OthersNeverFallBack = (m : Metrics) (tables : Glyf) (programs : ProgramTables) (ppem : ℕ) (how : Fit)
-    (s : Fitter) (g : ℕ) → falls_back how ≡ false → fitter_of m tables programs ppem how ≡ Ok s
+OthersNeverFallBack = (m : Metrics) (tables : Glyf) (programs : ProgramTables) (instance : List ℤ) (ppem : ℕ)
+    (how : Fit)
+    (s : Fitter) (g : ℕ) → falls_back how ≡ false → fitter_of m tables programs instance ppem how ≡ Ok s
     → unfitted_fault s g ≡ None
 
 -- the programs of Fallback alone give what Full gives
 abbrev pub FullIsByPrograms : Type 0
-FullIsByPrograms = (m : Metrics) (tables : Glyf) (programs : ProgramTables) (ppem : ℕ)
-    → fitter_of m tables programs ppem fit.Full ≡ fitter_by_programs m tables programs ppem fit.Fallback
+FullIsByPrograms = (m : Metrics) (tables : Glyf) (programs : ProgramTables) (instance : List ℤ) (ppem : ℕ)
+    → fitter_of m tables programs instance ppem fit.Full ≡ fitter_by_programs m tables programs instance ppem fit.Fallback
 
 -- Fallback without programs gives what None gives
 abbrev pub NoneIsWithoutPrograms : Type 0
-NoneIsWithoutPrograms = (m : Metrics) (tables : Glyf) (programs : ProgramTables) (ppem : ℕ)
-    → fitter_of m tables programs ppem fit.None ≡ Ok (fitter_without_programs m tables ppem fit.Fallback)
+NoneIsWithoutPrograms = (m : Metrics) (tables : Glyf) (programs : ProgramTables) (instance : List ℤ) (ppem : ℕ)
+    → fitter_of m tables programs instance ppem fit.None ≡ Ok (fitter_without_programs m tables ppem fit.Fallback)
+
+-- with every fit but Best no program can read the instance, which is then that of the default
+abbrev pub OthersReadNoInstance : Type 0
+OthersReadNoInstance = (m : Metrics) (tables : Glyf) (programs : ProgramTables) (instance : List ℤ) (ppem : ℕ)
+    (how : Fit)
+    → how ≢ fit.Best → fitter_of m tables programs instance ppem how ≡ fitter_of m tables programs [] ppem how
 
 -- Work. Unbounded work is always enough, and refuses no glyph.
 abbrev pub UnboundedIsEnough : Type 0
@@ -119,9 +130,10 @@ UnboundedIsEnough = (s : Fitter) (g : ℕ) → glyph_work s g None ≡ enough No
 
 -- with every fit but Best a job's work is unbounded, and so is that of the font's two programs
 abbrev pub OthersAreUnbounded : Type 0
-OthersAreUnbounded = (m : Metrics) (tables : Glyf) (programs : ProgramTables) (ppem : ℕ) (how : Fit) (s : Fitter)
-    → how ≢ fit.Best → fitter_of m tables programs ppem how ≡ Ok s
-    → (s.work ≡ None) × ProgramsHaveWork m programs ppem how
+OthersAreUnbounded = (m : Metrics) (tables : Glyf) (programs : ProgramTables) (instance : List ℤ) (ppem : ℕ)
+    (how : Fit) (s : Fitter)
+    → how ≢ fit.Best → fitter_of m tables programs instance ppem how ≡ Ok s
+    → (s.work ≡ None) × ProgramsHaveWork m programs instance ppem how
 
 -- with unbounded work the fitter after a glyph is unchanged
 abbrev pub UnboundedStays : Type 0
@@ -135,9 +147,10 @@ SpentWorkUnfits = (s : Fitter) (g : ℕ) (fault : Fault) → s.fallback ≡ wher
 
 -- where the font's two programs exceed the job's work, every glyph is made without programs, and has that fault
 abbrev pub SpentProgramsUnfitAll : Type 0
-SpentProgramsUnfitAll = (m : Metrics) (tables : Glyf) (programs : ProgramTables) (ppem : ℕ) (how : Fit) (s : Fitter)
-    (g : ℕ) (fault : Fault) → falls_back how ≡ true → fitter_of m tables programs ppem how ≡ Ok s
-    → work_at m programs ppem how ≡ spent fault
+SpentProgramsUnfitAll = (m : Metrics) (tables : Glyf) (programs : ProgramTables) (instance : List ℤ) (ppem : ℕ)
+    (how : Fit) (s : Fitter)
+    (g : ℕ) (fault : Fault) → falls_back how ≡ true → fitter_of m tables programs instance ppem how ≡ Ok s
+    → work_at m programs instance ppem how ≡ spent fault
     → (fitted_outline s g ≡ outline_without_programs m tables ppem how g) × (unfitted_fault s g ≡ Some fault)
 
 -- at most this much work remains
@@ -146,8 +159,8 @@ Fewer left after = (rest : ℕ) × (after ≡ Some rest) × (rest ≤ left)
 
 -- with Best a job begins with at most its limit, and no glyph increases the remaining work
 abbrev pub BestIsBounded : Type 0
-BestIsBounded = (m : Metrics) (tables : Glyf) (programs : ProgramTables) (ppem : ℕ) (s : Fitter)
-    → fitter_of m tables programs ppem fit.Best ≡ Ok s → Fewer work_limit s.work
+BestIsBounded = (m : Metrics) (tables : Glyf) (programs : ProgramTables) (instance : List ℤ) (ppem : ℕ) (s : Fitter)
+    → fitter_of m tables programs instance ppem fit.Best ≡ Ok s → Fewer work_limit s.work
 
 abbrev pub WorkFalls : Type 0
 WorkFalls = (s : Fitter) (g left : ℕ) → s.work ≡ Some left → Fewer left (after_glyph s g).work
@@ -164,14 +177,16 @@ OriginalsAreScaled = (s : Fitter) (g : ℕ) (d : SimpleGlyph) (o : Outline) (gri
 
 -- With every fit but Best no program measures in font units, and halves round upwards
 abbrev pub OthersMeasureInPixels : Type 0
-OthersMeasureInPixels = (m : Metrics) (tables : Glyf) (programs : ProgramTables) (ppem : ℕ) (how : Fit) (s : Fitter)
-    (g : ℕ) (d : SimpleGlyph) → how ≢ fit.Best → fitter_of m tables programs ppem how ≡ Ok s
+OthersMeasureInPixels = (m : Metrics) (tables : Glyf) (programs : ProgramTables) (instance : List ℤ) (ppem : ℕ)
+    (how : Fit) (s : Fitter)
+    (g : ℕ) (d : SimpleGlyph) → how ≢ fit.Best → fitter_of m tables programs instance ppem how ≡ Ok s
     → ((simple_program s g d).units ≡ None) × ((size_of s).scale.halves ≡ halves.Up)
 
 -- Dropouts. With every fit but Best none are filled
 abbrev pub OthersFillNone : Type 0
-OthersFillNone = (m : Metrics) (tables : Glyf) (programs : ProgramTables) (ppem : ℕ) (how : Fit) (s : Fitter)
-    (unfitted : Option Fault) (o : Outline) → how ≢ fit.Best → fitter_of m tables programs ppem how ≡ Ok s
+OthersFillNone = (m : Metrics) (tables : Glyf) (programs : ProgramTables) (instance : List ℤ) (ppem : ℕ) (how : Fit)
+    (s : Fitter)
+    (unfitted : Option Fault) (o : Outline) → how ≢ fit.Best → fitter_of m tables programs instance ppem how ≡ Ok s
     → dropouts_of s unfitted o ≡ None
 
 -- with every fit a glyph leaves the rules for later glyphs unchanged
@@ -181,8 +196,9 @@ RulesStay = (s : Fitter) (g : ℕ) (unfitted : Option Fault) (o : Outline)
 
 -- with Best an unfitted glyph has the rules of scan type 1
 abbrev pub UnfittedByTypeOne : Type 0
-UnfittedByTypeOne = (m : Metrics) (tables : Glyf) (programs : ProgramTables) (ppem : ℕ) (s : Fitter) (fault : Fault)
-    (o : Outline) → fitter_of m tables programs ppem fit.Best ≡ Ok s
+UnfittedByTypeOne = (m : Metrics) (tables : Glyf) (programs : ProgramTables) (instance : List ℤ) (ppem : ℕ)
+    (s : Fitter) (fault : Fault)
+    (o : Outline) → fitter_of m tables programs instance ppem fit.Best ≡ Ok s
     → dropouts_of s (Some fault) o ≡ Some default_rules
 
 -- a font program and a control value program that are both empty
@@ -192,48 +208,55 @@ pub record AreEmpty (programs : ProgramTables) : Type 0 where
 
 -- with them every glyph has the rules of scan type 1
 abbrev pub EmptyByTypeOne : Type 0
-EmptyByTypeOne = (m : Metrics) (tables : Glyf) (programs : ProgramTables) (ppem : ℕ) (s : Fitter)
-    (unfitted : Option Fault) (o : Outline) → AreEmpty programs → fitter_of m tables programs ppem fit.Best ≡ Ok s
+EmptyByTypeOne = (m : Metrics) (tables : Glyf) (programs : ProgramTables) (instance : List ℤ) (ppem : ℕ) (s : Fitter)
+    (unfitted : Option Fault) (o : Outline) → AreEmpty programs
+    → fitter_of m tables programs instance ppem fit.Best ≡ Ok s
     → dropouts_of s unfitted o ≡ Some default_rules
 
 -- with Best, the two programs run without a fault, and the control value program switches glyph programs off
-pub record SwitchedOff (m : Metrics) (programs : ProgramTables) (ppem : ℕ) : Type 0 where
+pub record SwitchedOff (m : Metrics) (programs : ProgramTables) (instance : List ℤ) (ppem : ℕ) : Type 0 where
   pub font : Parts
   pub left : Parts
-  pub by_font : run_of (font_program programs.fpgm) (begun_at m programs ppem fit.Best) ≡ Ok font
+  pub by_font : run_of (font_program programs.fpgm) (begun_at m programs instance ppem fit.Best) ≡ Ok font
   pub by_values : run_of (control_value_program programs.prep)
-      (with_definitions (begun_at m programs ppem fit.Best) font) ≡ Ok left
+      (with_definitions (begun_at m programs instance ppem fit.Best) font) ≡ Ok left
   pub skips : left.skip_glyphs ≡ true
 
 -- then every glyph has these rules too
 abbrev pub SkippedByTypeOne : Type 0
-SkippedByTypeOne = (m : Metrics) (tables : Glyf) (programs : ProgramTables) (ppem : ℕ) (s : Fitter)
-    (unfitted : Option Fault) (o : Outline) → SwitchedOff m programs ppem
-    → fitter_of m tables programs ppem fit.Best ≡ Ok s → dropouts_of s unfitted o ≡ Some default_rules
+SkippedByTypeOne = (m : Metrics) (tables : Glyf) (programs : ProgramTables) (instance : List ℤ) (ppem : ℕ) (s : Fitter)
+    (unfitted : Option Fault) (o : Outline) → SwitchedOff m programs instance ppem
+    → fitter_of m tables programs instance ppem fit.Best ≡ Ok s → dropouts_of s unfitted o ≡ Some default_rules
 
 -- With Best, hinting is on. The scan control of an outline is that of the last program run for it, or else that of the
 -- control value program.
-pub record LeftScan (m : Metrics) (tables : Glyf) (programs : ProgramTables) (ppem : ℕ) (s : Fitter) (o : Outline)
+pub record LeftScan (m : Metrics) (tables : Glyf) (programs : ProgramTables) (instance : List ℤ) (ppem : ℕ)
+    (s : Fitter) (o : Outline)
     (scan : ScanControl) : Type 0 where
-  pub made : fitter_of m tables programs ppem fit.Best ≡ Ok s
+  pub made : fitter_of m tables programs instance ppem fit.Best ≡ Ok s
   pub parts : Parts
   pub hinting : s.hinting ≡ ready parts
   pub left : scan_left o.scan parts.state.scan ≡ scan
 
 -- then a fitted glyph has the rules of the scan control, with dots where no program was run for it
 abbrev pub FittedByScan : Type 0
-FittedByScan = (m : Metrics) (tables : Glyf) (programs : ProgramTables) (ppem : ℕ) (s : Fitter) (o : Outline)
-    (scan : ScanControl) → LeftScan m tables programs ppem s o scan → dropouts_of s None o ≡ scan_rules (none_ran o.scan) scan
+FittedByScan = (m : Metrics) (tables : Glyf) (programs : ProgramTables) (instance : List ℤ) (ppem : ℕ) (s : Fitter)
+    (o : Outline)
+    (scan : ScanControl) → LeftScan m tables programs instance ppem s o scan → dropouts_of s None o ≡ scan_rules
+    (none_ran o.scan) scan
 
 -- where the scan control is off, the glyph's dropouts are not filled
 abbrev pub OffFillsNone : Type 0
-OffFillsNone = (m : Metrics) (tables : Glyf) (programs : ProgramTables) (ppem : ℕ) (s : Fitter) (o : Outline)
-    (scan : ScanControl) → LeftScan m tables programs ppem s o scan → scan.on ≡ false → dropouts_of s None o ≡ None
+OffFillsNone = (m : Metrics) (tables : Glyf) (programs : ProgramTables) (instance : List ℤ) (ppem : ℕ) (s : Fitter)
+    (o : Outline)
+    (scan : ScanControl) → LeftScan m tables programs instance ppem s o scan → scan.on ≡ false
+    → dropouts_of s None o ≡ None
 
 -- scan types other than 0, 1, 4 and 5 fill none either
 abbrev pub OtherTypesFillNone : Type 0
-OtherTypesFillNone = (m : Metrics) (tables : Glyf) (programs : ProgramTables) (ppem : ℕ) (s : Fitter) (o : Outline)
-    (scan : ScanControl) → LeftScan m tables programs ppem s o scan
+OtherTypesFillNone = (m : Metrics) (tables : Glyf) (programs : ProgramTables) (instance : List ℤ) (ppem : ℕ)
+    (s : Fitter) (o : Outline)
+    (scan : ScanControl) → LeftScan m tables programs instance ppem s o scan
     → scan.scan_type ≢ 0 → scan.scan_type ≢ 1 → scan.scan_type ≢ 4 → scan.scan_type ≢ 5 → dropouts_of s None o ≡ None
 
 -- worked value: control values are no program

@@ -2,7 +2,7 @@
 -- value program, before the first glyph. Without programs they are ignored. The control value program sees only the
 -- definitions of the font program. This, and which of its own results the glyphs see, is this project's choice
 -- (profile).
-use Rattle.std.specs.Prelude.{ℕ, if◌then◌else◌, List, codes, Option, Some, None, Result, Ok, Err}
+use Rattle.std.specs.Prelude.{ℕ, ℤ, if◌then◌else◌, List, codes, Option, Some, None, Result, Ok, Err}
 use Rattle.tt_core.specs.Faults.{Fault}
 use Rattle.tt_core.specs.Outcomes.{◌>>=◌}
 use Rattle.tt_fit_hinting.specs.step.MachineState.{Code}
@@ -18,7 +18,7 @@ use Rattle.tt_fit.specs.Fallback.{Fallback, never, where_refused, everywhere}
 use Rattle.tt_fit.specs.Fitting.{Fitter}
 use Rattle.tt_fit_hinting.specs.Hinting.{Hinting, off, ready, run_of}
 use Rattle.tt_fit_hinting.specs.Parts.{begun_parts, left_to_glyphs}
-use Rattle.tt_fit.specs.Rules.{rules_of, grid_of, runs_programs, levels_of, work_of, cvt_read, dropouts_by}
+use Rattle.tt_fit.specs.Rules.{rules_of, grid_of, runs_programs, levels_of, work_of, cvt_read, instance_read, dropouts_by}
 use Rattle.tt_fit_hinting.specs.Work.{if_ok, code_work}
 
 abbrev pub font_program : List ℕ → Code
@@ -73,25 +73,27 @@ prepared_by fit.Full worked by_programs = by_programs >>= λ hinting. Ok (withou
 prepared_by fit.Fallback worked by_programs = Ok (with_fallback by_programs)
 prepared_by fit.Best worked by_programs = Ok (within_work worked by_programs)
 
--- the parts at the start of the two programs at a size by the rules of a fit
-abbrev pub begun_at : Metrics → ProgramTables → ℕ → Fit → Parts
-begun_at m programs ppem fit = begun_parts m (cvt_read fit programs.cvt) ppem (rules_of fit)
+-- the parts at the start of the two programs at an instance and a size, by the rules of a fit
+abbrev pub begun_at : Metrics → ProgramTables → List ℤ → ℕ → Fit → Parts
+begun_at m programs instance ppem fit =
+    begun_parts m (cvt_read fit programs.cvt) ppem (rules_of fit) (instance_read fit instance)
 
 -- the state after the two programs, where they are run
-abbrev pub left_at : Metrics → ProgramTables → ℕ → Fit → Result Hinting Fault
-left_at m programs ppem fit = if runs_programs fit programs.fpgm programs.prep then
-    left_by_programs (begun_at m programs ppem fit) programs else Ok off
+abbrev pub left_at : Metrics → ProgramTables → List ℤ → ℕ → Fit → Result Hinting Fault
+left_at m programs instance ppem fit = if runs_programs fit programs.fpgm programs.prep then
+    left_by_programs (begun_at m programs instance ppem fit) programs else Ok off
 
 -- the work of the two programs from this work on, where they are run
-abbrev pub work_from : Metrics → ProgramTables → ℕ → Fit → Option ℕ → Worked
-work_from m programs ppem fit left = if runs_programs fit programs.fpgm programs.prep then
-    programs_work (begun_at m programs ppem fit) programs left else enough left
+abbrev pub work_from : Metrics → ProgramTables → List ℤ → ℕ → Fit → Option ℕ → Worked
+work_from m programs instance ppem fit left = if runs_programs fit programs.fpgm programs.prep then
+    programs_work (begun_at m programs instance ppem fit) programs left else enough left
 
-abbrev pub work_at : Metrics → ProgramTables → ℕ → Fit → Worked
-work_at m programs ppem fit = work_from m programs ppem fit (work_of fit)
+abbrev pub work_at : Metrics → ProgramTables → List ℤ → ℕ → Fit → Worked
+work_at m programs instance ppem fit = work_from m programs instance ppem fit (work_of fit)
 
-unfoldable pub prepared : Metrics → ProgramTables → ℕ → Fit → Result Preparation Fault
-prepared m programs ppem fit = prepared_by fit (work_at m programs ppem fit) (left_at m programs ppem fit)
+unfoldable pub prepared : Metrics → ProgramTables → List ℤ → ℕ → Fit → Result Preparation Fault
+prepared m programs instance ppem fit =
+    prepared_by fit (work_at m programs instance ppem fit) (left_at m programs instance ppem fit)
 
 -- the fitter, by the state after the two programs, where no dropouts are filled
 abbrev pub fitter_with : Metrics → Glyf → ℕ → Fit → Hinting → Fallback → Option ℕ → Fitter
@@ -108,8 +110,8 @@ fitter_with m tables ppem fit hinting fallback work = record {
   dropouts = by.Nobody;
 }
 
--- the fitter of a font at a size
-unfoldable pub fitter_of : Metrics → Glyf → ProgramTables → ℕ → Fit → Result Fitter Fault
-fitter_of m tables programs ppem fit = do
-  p ← prepared m programs ppem fit
+-- the fitter of a font at an instance and a size; the default instance has no place on an axis
+unfoldable pub fitter_of : Metrics → Glyf → ProgramTables → List ℤ → ℕ → Fit → Result Fitter Fault
+fitter_of m tables programs instance ppem fit = do
+  p ← prepared m programs instance ppem fit
   Ok (record (fitter_with m tables ppem fit p.hinting p.fallback p.work) { dropouts = dropouts_by fit })

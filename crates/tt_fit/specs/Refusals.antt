@@ -57,7 +57,7 @@ its_fitter fallback = record {
   ppem = 16;
   scaling = scaling.Exact;
   grid = grid_rule.Always;
-  hinting = ready (begun_parts its_metrics [] 16 of_profile);
+  hinting = ready (begun_parts its_metrics [] 16 of_profile []);
   fallback = fallback;
   levels = level_limit;
   work = None;
@@ -118,17 +118,17 @@ its_programs = record { cvt = []; fpgm = 6 ∷ []; prep = [] }
 abbrev font_fault : Fault
 font_fault = fault_at (codes "fpgm") 0 why.OffProfile
 
-font_program_is_refused : prepared its_metrics its_programs 16 fit.Full ≡ Err font_fault
+font_program_is_refused : prepared its_metrics its_programs [] 16 fit.Full ≡ Err font_fault
 unfolding prepared left_by_programs run_of run_outcome run_within
 font_program_is_refused = refl
 
-by_it_every_glyph_is_unfitted : prepared its_metrics its_programs 16 fit.Fallback ≡ Ok
+by_it_every_glyph_is_unfitted : prepared its_metrics its_programs [] 16 fit.Fallback ≡ Ok
     (record { hinting = off; fallback = everywhere font_fault; work = None })
 unfolding prepared left_by_programs run_of run_outcome run_within
 by_it_every_glyph_is_unfitted = refl
 
 -- with best: an opcode that nothing defines, whose step counts as work of 2
-with_best_every_glyph_is_unfitted : prepared its_metrics (record its_programs { fpgm = 0xA0 ∷ [] }) 16 fit.Best ≡ Ok
+with_best_every_glyph_is_unfitted : prepared its_metrics (record its_programs { fpgm = 0xA0 ∷ [] }) [] 16 fit.Best ≡ Ok
     (record { hinting = off; fallback = everywhere (fault_at (codes "fpgm") 0 why.BadOpcode); work = Some 49999998 })
 unfolding prepared left_by_programs run_of run_outcome run_within programs_work run_work work_within slowness
 with_best_every_glyph_is_unfitted = refl

@@ -67,7 +67,7 @@ its_fitter high low grid hinting = record {
 }
 
 abbrev its_hinting : Hinting
-its_hinting = ready (begun_parts (its_metrics 1 0) [] 16 (rules_of fit.Best))
+its_hinting = ready (begun_parts (its_metrics 1 0) [] 16 (rules_of fit.Best) [])
 
 -- the square moved by this much along x and along y
 abbrev square_at : ℤ → ℤ → List (ℤ × ℤ × Bool)
@@ -156,7 +156,7 @@ unfolding wide fitted_outline unfitted_fault glyph_data_of glyph_bytes_of header
 past_the_limit = refl
 
 -- without a font program and a control value program, hinting is off, and no work is used
-nothing_is_run : prepared (its_metrics 1 0) no_programs 16 fit.Best
+nothing_is_run : prepared (its_metrics 1 0) no_programs [] 16 fit.Best
     ≡ Ok (record { hinting = off; fallback = where_refused; work = Some 50000000 })
 unfolding prepared
 nothing_is_run = refl

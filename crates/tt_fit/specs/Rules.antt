@@ -1,5 +1,5 @@
 -- No part of the standard: the rules of each fit (profile).
-use Rattle.std.specs.Prelude.{◌≡◌, ℕ, ◌*◌, ◌==◌, Bool, true, false, not, ◌&&◌, List, [], ◌∷◌, length, take, Option, Some, None, refl}
+use Rattle.std.specs.Prelude.{◌≡◌, ℕ, ℤ, ◌*◌, ◌==◌, Bool, true, false, not, ◌&&◌, List, [], ◌∷◌, length, take, Option, Some, None, refl}
 use Rattle.tt_core.specs.Limits.{level_limit, best_level_limit, work_limit}
 use Rattle.tt_state.specs.declared.tolerance.Tolerance.TheVariants as tolerance
 use Rattle.tt_fit.specs.declared.dropouts.DropoutsBy.{DropoutsBy}
@@ -69,6 +69,13 @@ cvt_read fit.Full cvt = cvt
 cvt_read fit.None cvt = cvt
 cvt_read fit.Fallback cvt = cvt
 cvt_read fit.Best cvt = take (2 * cvt_limit) cvt
+
+-- The instance that programs can read, as the place on each axis in 2.14. Only the whole instruction set can.
+abbrev pub instance_read : Fit → List ℤ → List ℤ
+instance_read fit.Full instance = []
+instance_read fit.None instance = []
+instance_read fit.Fallback instance = []
+instance_read fit.Best instance = instance
 
 -- the source of the dropout rules: with Best the font's programs
 abbrev pub dropouts_by : Fit → DropoutsBy

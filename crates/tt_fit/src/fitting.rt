@@ -13,6 +13,7 @@ ghost use Rattle.tt_fit.specs.Fitting.{IsFitter, with_hinting, outline_at, glyph
 ghost use Rattle.tt_fit.specs.Preparation.{fitter_of};
 ghost use Rattle.tt_fit.specs.Tried.{IfMade, IfRefused, outcome_of};
 ghost use Rattle.tt_fit_outline.specs.Views.{outline_of};
+ghost use Rattle.tt_fit_hinting.specs.state.Instances.{instance_of};
 ghost use Rattle.tt_fit_hinting.specs.Views.{hinting_view};
 ghost use Rattle.tt_fit_hinting.specs.Work.{RefusalLeaves, outline_fault};
 ghost use Rattle.tt_metrics.specs.Metrics.{loca_format_of, glyphs_of};
@@ -28,7 +29,7 @@ use std::alloc::{AllocError, Global};
 use std::marker::Model;
 use tt_core::{Fault, FontFault};
 use tt_face::Programs;
-use tt_fit_hinting::{GlyphMachine, Hinting, OutlineFault, Runner, Work, unbounded};
+use tt_fit_hinting::{GlyphMachine, Hinting, Instance, OutlineFault, Runner, Work, unbounded};
 use tt_fit_outline::{GridRule, Outline, Scaling};
 use tt_glyf::Glyf;
 use tt_metrics::Metrics;
@@ -68,15 +69,17 @@ impl<'a> Model for Fitter<'a> {
 }
 
 impl<'a> Fitter<'a> {
-    /// Takes a font's metrics, glyph data and programs. `Fit::Full` runs the font program and the control value program
-    /// at this size, in pixels per em. `Fit::None` ignores them. Errors: those of the two programs, Memory. With
-    /// `Fit::Fallback` and `Fit::Best` a fault of the two programs makes every glyph unfitted.
+    /// Takes a font's metrics, glyph data and programs, and the instance of the font. `Fit::Full` runs the font program
+    /// and the control value program at this size, in pixels per em. `Fit::None` ignores them. Programs can read the
+    /// instance with `Fit::Best`. Errors: those of the two programs, Memory. With `Fit::Fallback` and `Fit::Best` a
+    /// fault of the two programs makes every glyph unfitted.
     #[tactic(auto, using(crate::proofs::Hintings::is_hinting), unfolding(crate::specs::Preparation::fitter_of))]
     pub fn new(
         alloc: Global,
         metrics: &Metrics<'a>,
         glyf: Glyf<'a>,
         programs: Programs<'a>,
+        instance: Instance,
         ppem: u32,
         fit: Fit,
     ) -> Result<Fitter<'a>, FontFault>
@@ -86,7 +89,7 @@ impl<'a> Fitter<'a> {
         requires glyphs { glyf.glyphs ≡ glyphs_of metrics.now }
         requires fpgm { length programs.fpgm.now ≤ font_limit }
         requires prep { length programs.prep.now ≤ font_limit }
-        ensures exact { FontGives (λ f. f) result (fitter_of metrics.now glyf.entry (program_tables programs.entry) ppem fit) }
+        ensures exact { FontGives (λ f. f) result (fitter_of metrics.now glyf.entry (program_tables programs.entry) (instance_of instance) ppem fit) }
         ensures valid { IfOk result IsFitter }
         ensures tables { IfOk result (λ f. f.tables ≡ glyf.entry) }
         ensures metrics { IfOk result (λ f. f.metrics ≡ metrics.now) }
@@ -97,6 +100,7 @@ impl<'a> Fitter<'a> {
             programs,
             ppem,
             fit,
+            instance,
         };
         let Preparation {
             hinting,

@@ -1,12 +1,17 @@
 //! Laws of the definitions. Each function is a lemma: its clauses hold of all glyphs, and no code runs.
 
-ghost use Rattle.tt_fit.specs.Laws.{OutlinesAreWhole, OutlineFaultsStand, UnboundedIsEnough, OthersAreUnbounded, UnboundedStays, SpentWorkUnfits, SpentProgramsUnfitAll};
+ghost use Rattle.tt_fit.specs.Laws.{OutlinesAreWhole, OutlineFaultsStand, OthersReadNoInstance, UnboundedIsEnough, OthersAreUnbounded, UnboundedStays, SpentWorkUnfits, SpentProgramsUnfitAll};
 ghost use Rattle.tt_fit.specs.GlyphCost.{ChargesTakeWorkAlone, CostsStay, FittersRenew, GlyphsAreMadeFor, GlyphsHaveCosts, GlyphsTakeWorkAlone, PaidIsMade, WorkIsApart};
 
 /// Lemma: an outline means that the glyph and its components have no defect, and a fault names a defect they have.
 pub fn outlines_are_whole()
     ensures whole { OutlinesAreWhole }
     ensures fault { OutlineFaultsStand }
+{}
+
+/// Lemma: with every fit but `Fit::Best` the instance changes nothing, since no program can read it.
+pub fn others_read_no_instance()
+    ensures { OthersReadNoInstance }
 {}
 
 /// Lemma: with every fit but `Fit::Best` work is unbounded and refuses no glyph. With `Fit::Best` a glyph whose

@@ -21,4 +21,5 @@ pub use programs::Fit;
 pub use tried::TriedOutline;
 pub use tt_core::FontFault as FitFault;
 pub use tt_face::Programs;
+pub use tt_fit_hinting::Instance;
 pub use tt_fit_outline::{Outline, pixels_of};

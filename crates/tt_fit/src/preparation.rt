@@ -6,6 +6,7 @@ ghost use Rattle.tt_core.specs.Faults.{is_ascii};
 ghost use Rattle.tt_core.specs.Limits.{font_limit};
 ghost use Rattle.tt_core.specs.Outcomes.{FontGives};
 ghost use Rattle.tt_fit_hinting.specs.machine.Parts.{parts_of};
+ghost use Rattle.tt_fit_hinting.specs.state.Instances.{instance_of};
 ghost use Rattle.tt_fit_hinting.specs.step.Views.{code_of};
 ghost use Rattle.tt_face.specs.Programs.{program_tables};
 ghost use Rattle.tt_fit.specs.Preparation.{hinting_left, left_by_programs, programs_work, without_fallback, within_work, begun_at, left_at, work_from, work_at, prepared};
@@ -18,7 +19,7 @@ ghost use Rattle.tt_fit_hinting.specs.Work.{Makes, WorkGives};
 
 use crate::fallback::Fallback;
 use crate::programs::{Fit, ProgramsAtSize};
-use crate::rules::{cvt_read, rules_of, runs_programs, work_of};
+use crate::rules::{cvt_read, instance_read, rules_of, runs_programs, work_of};
 use std::alloc::Global;
 use std::mem::swap;
 use tt_core::{Fault, FontFault};
@@ -84,16 +85,17 @@ impl<'a> ProgramsAtSize<'_, 'a> {
     #[tactic(auto, unfolding(crate::specs::Preparation::left_by_programs, crate::specs::Preparation::programs_work))]
     fn left_by_programs(&self, alloc: Global, work: &mut Work) -> Result<Hinting<'a>, OutlineFault>
         ensures exact { let tables = program_tables self.now.programs in
-            Makes hinting_view result (left_by_programs (begun_at self.now.metrics.now tables self.now.ppem self.now.fit) tables) }
+            Makes hinting_view result (left_by_programs (begun_at self.now.metrics.now tables (instance_of self.now.instance) self.now.ppem self.now.fit) tables) }
         ensures work { let tables = program_tables self.now.programs in
-            WorkGives result work.new.left (programs_work (begun_at self.now.metrics.now tables self.now.ppem self.now.fit) tables work.old.left) }
+            WorkGives result work.new.left (programs_work (begun_at self.now.metrics.now tables (instance_of self.now.instance) self.now.ppem self.now.fit) tables work.old.left) }
     {
         let rules = rules_of(self.fit);
         let cvt = cvt_read(self.fit, self.programs.cvt);
-        let begun = begun_parts(alloc, self.metrics, cvt, self.ppem, rules)?;
+        let instance = instance_read(self.fit, self.instance);
+        let begun = begun_parts(alloc, self.metrics, cvt, self.ppem, rules, instance)?;
         let fpgm = whole_table(*b"fpgm", self.programs.fpgm);
         let mut font = run(alloc, begun, fpgm, work)?;
-        let mut prep_parts = begun_parts(alloc, self.metrics, cvt, self.ppem, rules)?;
+        let mut prep_parts = begun_parts(alloc, self.metrics, cvt, self.ppem, rules, instance)?;
         swap(&mut prep_parts.functions, &mut font.functions);
         swap(&mut prep_parts.instructions, &mut font.instructions);
         let prep = whole_table(*b"prep", self.programs.prep);
@@ -103,8 +105,8 @@ impl<'a> ProgramsAtSize<'_, 'a> {
 
     /// The state after both programs, where they are run. Errors: theirs, Memory, Spent.
     fn left(&self, alloc: Global, work: &mut Work) -> Result<Hinting<'a>, OutlineFault>
-        ensures exact { Makes hinting_view result (left_at self.now.metrics.now (program_tables self.now.programs) self.now.ppem self.now.fit) }
-        ensures work { WorkGives result work.new.left (work_from self.now.metrics.now (program_tables self.now.programs) self.now.ppem self.now.fit work.old.left) }
+        ensures exact { Makes hinting_view result (left_at self.now.metrics.now (program_tables self.now.programs) (instance_of self.now.instance) self.now.ppem self.now.fit) }
+        ensures work { WorkGives result work.new.left (work_from self.now.metrics.now (program_tables self.now.programs) (instance_of self.now.instance) self.now.ppem self.now.fit work.old.left) }
     {
         if runs_programs(self.fit, self.programs) {
             self.left_by_programs(alloc, work)
@@ -116,7 +118,7 @@ impl<'a> ProgramsAtSize<'_, 'a> {
     /// The state after both programs. After a fault of either, every glyph is unfitted. Error: Memory.
     fn with_fallback(&self, alloc: Global) -> Result<Preparation<'a>, FontFault>
         ensures exact { let tables = program_tables self.now.programs in
-            FontGives preparation_view result (Ok (within_work (work_at self.now.metrics.now tables self.now.ppem self.now.fit) (left_at self.now.metrics.now tables self.now.ppem self.now.fit))) }
+            FontGives preparation_view result (Ok (within_work (work_at self.now.metrics.now tables (instance_of self.now.instance) self.now.ppem self.now.fit) (left_at self.now.metrics.now tables (instance_of self.now.instance) self.now.ppem self.now.fit))) }
     {
         let mut work = work_of(self.fit);
         match self.left(alloc, &mut work) {
@@ -137,7 +139,7 @@ impl<'a> ProgramsAtSize<'_, 'a> {
     /// `Fit::Best`; Memory.
     #[tactic(auto, unfolding(crate::specs::Preparation::prepared))]
     pub(crate) fn prepared(&self, alloc: Global) -> Result<Preparation<'a>, FontFault>
-        ensures exact { FontGives preparation_view result (prepared self.now.metrics.now (program_tables self.now.programs) self.now.ppem self.now.fit) }
+        ensures exact { FontGives preparation_view result (prepared self.now.metrics.now (program_tables self.now.programs) (instance_of self.now.instance) self.now.ppem self.now.fit) }
     {
         match self.fit {
             Fit::Full => {

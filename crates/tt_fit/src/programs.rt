@@ -4,6 +4,7 @@ ghost use Rattle.std.specs.Prelude.{◌≤◌, length};
 ghost use Rattle.tt_core.specs.Limits.{font_limit, size_limit};
 
 use tt_face::Programs;
+use tt_fit_hinting::Instance;
 use tt_metrics::Metrics;
 
 /// How outlines are fitted to the grid.
@@ -21,7 +22,7 @@ pub enum Fit {
     Best,
 }
 
-/// A font's programs at a size.
+/// A font's programs at a size, at an instance of the font.
 #[derive(Clone, Copy)]
 pub(crate) struct ProgramsAtSize<'m, 'a> {
     pub(crate) metrics: &'m Metrics<'a>,
@@ -29,6 +30,7 @@ pub(crate) struct ProgramsAtSize<'m, 'a> {
     /// Pixels per em.
     pub(crate) ppem: u32,
     pub(crate) fit: Fit,
+    pub(crate) instance: Instance,
     pub(crate) ghost limit: { ppem ≤ size_limit },
     pub(crate) ghost fpgm: { length programs.fpgm.now ≤ font_limit },
     pub(crate) ghost prep: { length programs.prep.now ≤ font_limit },

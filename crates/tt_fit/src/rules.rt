@@ -1,13 +1,14 @@
 //! The rules of each fit.
 
 ghost use Rattle.std.specs.Prelude.{◌≡◌};
-ghost use Rattle.tt_fit.specs.Rules.{rules_of, grid_of, runs_programs, levels_of, work_of, cvt_read, dropouts_by};
+ghost use Rattle.tt_fit.specs.Rules.{rules_of, grid_of, runs_programs, levels_of, work_of, cvt_read, instance_read, dropouts_by};
+ghost use Rattle.tt_fit_hinting.specs.state.Instances.{instance_of};
 
 use crate::dropouts::DropoutsBy;
 use crate::programs::Fit;
 use tt_core::{BEST_LEVEL_LIMIT, LEVEL_LIMIT, WORK_LIMIT};
 use tt_face::Programs;
-use tt_fit_hinting::Work;
+use tt_fit_hinting::{Instance, Work};
 use tt_fit_outline::{GridRule, OutlineRules, Scaling};
 use tt_state::Tolerance;
 
@@ -79,6 +80,16 @@ pub(crate) fn cvt_read(fit: Fit, cvt: &[u8]) -> &[u8]
     match fit {
         Fit::Full | Fit::None | Fit::Fallback => cvt,
         Fit::Best => &cvt[..CVT_BYTES.min(cvt.len())],
+    }
+}
+
+/// The instance that programs can read.
+pub(crate) fn instance_read(fit: Fit, instance: Instance) -> Instance
+    ensures { instance_of result ≡ instance_read fit (instance_of instance) }
+{
+    match fit {
+        Fit::Full | Fit::None | Fit::Fallback => Instance::none(),
+        Fit::Best => instance,
     }
 }
 

@@ -5,4 +5,5 @@ pub mod Views
 pub mod Work
 pub mod WorkLaws
 pub use Rattle.tt_exec.specs as machine
+pub use Rattle.tt_exec.specs.state as state
 pub use Rattle.tt_exec.specs.step as step

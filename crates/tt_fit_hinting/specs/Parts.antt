@@ -47,9 +47,9 @@ without_glyph halves twilight = record {
   originals = in_pixels halves;
 }
 
--- the parts at the start of the font program and the control value program; both have no glyph
-abbrev pub begun_parts : Metrics → List ℕ → ℕ → OutlineRules → Parts
-begun_parts m cvt ppem rules = record {
+-- the parts at the start of the font program and the control value program, at an instance; both have no glyph
+abbrev pub begun_parts : Metrics → List ℕ → ℕ → OutlineRules → List ℤ → Parts
+begun_parts m cvt ppem rules instance = record {
   scale = (size_by rules.scaling ppem (units_per_em_of m)).scale;
   ppem = ppem;
   cvt = control_values (size_by rules.scaling ppem (units_per_em_of m)) cvt;
@@ -58,6 +58,7 @@ begun_parts m cvt ppem rules = record {
   functions = [];
   instructions = [];
   state = default_of rules.whole;
+  instance = instance;
   tolerance = rules.tolerance;
   skip_glyphs = false;
   default_state = false;

@@ -15,4 +15,4 @@ pub use glyph_zone::ends_on_grid;
 pub use hinting::{GlyphMachine, Hinting, Runner, run};
 pub use outline_fault::{OutlineFault, unbounded};
 pub use parts::{begun_parts, left_to_glyphs};
-pub use tt_exec::{Code, Parts, Work};
+pub use tt_exec::{Code, Instance, Parts, Work};

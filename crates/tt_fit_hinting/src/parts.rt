@@ -3,6 +3,7 @@
 
 ghost use Rattle.std.specs.Prelude.{◌≡◌, ◌+◌, ◌*◌, ◌≤◌, length, option_map, IfOk};
 ghost use Rattle.tt_exec.specs.Parts.{parts_of};
+ghost use Rattle.tt_exec.specs.state.Instances.{instance_of};
 ghost use Rattle.tt_fit_outline.specs.Outline.{phantom_of};
 ghost use Rattle.tt_core.specs.Limits.{size_limit};
 ghost use Rattle.tt_fit_hinting.specs.Parts.{begun_parts, control_value, control_values, glyph_state, left_to_glyphs, originals_by, parts_with, pointers_set_back, without_glyph};
@@ -13,7 +14,7 @@ use crate::glyph_zone::{contours, glyph_zone, untouched};
 use crate::ready_glyph::ReadyGlyph;
 use std::alloc::{AllocError, Global};
 use tt_core::{Halves, Scale, i16_at};
-use tt_exec::{Copies, Functions, Originals, Parts, Zones};
+use tt_exec::{Copies, Functions, Instance, Originals, Parts, Zones};
 use tt_fit_outline::{FontSize, OutlineRules, Units};
 use tt_metrics::Metrics;
 use tt_state::GraphicsState;
@@ -52,16 +53,17 @@ fn without_glyph(alloc: Global, halves: Halves, twilight: u16) -> Result<Zones, 
     })
 }
 
-/// The parts at the start of the font program and of the control value program.
+/// The parts at the start of the font program and of the control value program, at an instance of the font.
 pub fn begun_parts<'a>(
     alloc: Global,
     metrics: &Metrics,
     cvt: &[u8],
     ppem: u32,
     rules: OutlineRules,
+    instance: Instance,
 ) -> Result<Parts<'a>, AllocError>
     requires { ppem ≤ size_limit }
-    ensures { IfOk result (λ p. parts_of p ≡ begun_parts metrics.now cvt.now ppem rules) }
+    ensures { IfOk result (λ p. parts_of p ≡ begun_parts metrics.now cvt.now ppem rules (instance_of instance)) }
 {
     let size = FontSize::of(metrics, ppem, rules.scaling);
     Ok(Parts {
@@ -73,6 +75,7 @@ pub fn begun_parts<'a>(
         functions: Functions::new(alloc),
         instructions: Functions::new(alloc),
         state: GraphicsState::new(rules.whole),
+        instance,
         tolerance: rules.tolerance,
         skip_glyphs: false,
         default_state: false,
@@ -93,6 +96,7 @@ pub(crate) fn without_contents<'a>(
         functions: Functions::new(alloc),
         instructions: Functions::new(alloc),
         state: parts.state,
+        instance: parts.instance,
         tolerance: parts.tolerance,
         skip_glyphs: parts.skip_glyphs,
         default_state: parts.default_state,

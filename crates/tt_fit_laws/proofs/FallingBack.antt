@@ -69,10 +69,10 @@ fits-by m tables ppem how who s g o (Err f) work same has made = absurd cc
 
 pub fallback-fits : FallbackFits
 unfolding fitter_of prepared
-fallback-fits m tables programs ppem how s g o falls is ready has made =
-    let left = left_at m programs ppem how in
+fallback-fits m tables programs instance ppem how s g o falls is ready has made =
+    let left = left_at m programs instance ppem how in
     let who = dropouts_by how in
-    let by = falling m tables ppem how who s (work_at m programs ppem how) left ready.0 falls ready.1 is in
+    let by = falling m tables ppem how who s (work_at m programs instance ppem how) left ready.0 falls ready.1 is in
     fits-by m tables ppem how who s g o left by.0 by.1 has made
 
 scales-by : (m : Metrics) (tables : Glyf) (ppem : ℕ) (how : Fit) (who : DropoutsBy) (s : Fitter) (g : ℕ)
@@ -94,10 +94,10 @@ scales-by m tables ppem how who s g f (Err told) work same has fails of_program 
 
 pub fallback-scales : FallbackScales
 unfolding fitter_of prepared
-fallback-scales m tables programs ppem how s g f falls is ready has fails of_program =
-    let left = left_at m programs ppem how in
+fallback-scales m tables programs instance ppem how s g f falls is ready has fails of_program =
+    let left = left_at m programs instance ppem how in
     let who = dropouts_by how in
-    let by = falling m tables ppem how who s (work_at m programs ppem how) left ready.0 falls ready.1 is in
+    let by = falling m tables ppem how who s (work_at m programs instance ppem how) left ready.0 falls ready.1 is in
     scales-by m tables ppem how who s g f left by.0 by.1 has fails of_program
 
 refuses-by : (m : Metrics) (tables : Glyf) (ppem : ℕ) (how : Fit) (who : DropoutsBy) (alone s : Fitter)
@@ -116,10 +116,10 @@ refuses-by m tables ppem how who alone s g f (Err told) work same has made fails
 
 pub fallback-refuses : FallbackRefuses
 unfolding fitter_of prepared
-fallback-refuses m tables programs ppem how alone s g f falls is ready has made fails of_table =
-    let left = left_at m programs ppem how in
+fallback-refuses m tables programs instance ppem how alone s g f falls is ready has made fails of_table =
+    let left = left_at m programs instance ppem how in
     let who = dropouts_by how in
-    let by = falling m tables ppem how who s (work_at m programs ppem how) left ready.0 falls ready.1 is in
+    let by = falling m tables ppem how who s (work_at m programs instance ppem how) left ready.0 falls ready.1 is in
     refuses-by m tables ppem how who alone s g f left by.0 by.1 has made fails of_table
 
 unfits-by : (m : Metrics) (tables : Glyf) (ppem : ℕ) (how : Fit) (who : DropoutsBy) (s : Fitter) (g : ℕ)
@@ -137,10 +137,10 @@ unfits-by m tables ppem how who s g f (Err told) work same fails =
 
 pub fallback-unfits-all : FallbackUnfitsAll
 unfolding fitter_of prepared
-fallback-unfits-all m tables programs ppem how s g f falls is ready fails =
-    let left = left_at m programs ppem how in
+fallback-unfits-all m tables programs instance ppem how s g f falls is ready fails =
+    let left = left_at m programs instance ppem how in
     let who = dropouts_by how in
-    let by = falling m tables ppem how who s (work_at m programs ppem how) left ready.0 falls ready.1 is in
+    let by = falling m tables ppem how who s (work_at m programs instance ppem how) left ready.0 falls ready.1 is in
     unfits-by m tables ppem how who s g f left by.0 by.1 fails
 
 others-by : (m : Metrics) (tables : Glyf) (ppem : ℕ) (how : Fit) (who : DropoutsBy) (s : Fitter) (g : ℕ)
@@ -158,9 +158,10 @@ others-by m tables ppem fit.Best who s g worked left other is = absurd cc
 
 pub others-never-fall-back : OthersNeverFallBack
 unfolding fitter_of prepared
-others-never-fall-back m tables programs ppem how s g other is =
+others-never-fall-back m tables programs instance ppem how s g other is =
     let who = dropouts_by how in
-    others-by m tables ppem how who s g (work_at m programs ppem how) (left_at m programs ppem how) other is
+    others-by m tables ppem how who s g (work_at m programs instance ppem how)
+    (left_at m programs instance ppem how) other is
 
 full-by : (m : Metrics) (tables : Glyf) (ppem : ℕ) (worked : Worked) (left : Result Hinting Fault)
     → fitter_by m tables ppem fit.Full Nobody worked left ≡ fitter_alone m tables ppem fit.Fallback left
@@ -169,9 +170,9 @@ full-by m tables ppem worked (Err f) = refl
 
 pub full-is-by-programs : FullIsByPrograms
 unfolding fitter_of prepared
-full-is-by-programs m tables programs ppem =
-    full-by m tables ppem (work_at m programs ppem fit.Full) (left_at m programs ppem fit.Fallback)
+full-is-by-programs m tables programs instance ppem =
+    full-by m tables ppem (work_at m programs instance ppem fit.Full) (left_at m programs instance ppem fit.Fallback)
 
 pub none-is-without-programs : NoneIsWithoutPrograms
 unfolding fitter_of prepared
-none-is-without-programs m tables programs ppem = refl
+none-is-without-programs m tables programs instance ppem = refl

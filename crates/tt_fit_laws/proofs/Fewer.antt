@@ -52,10 +52,10 @@ begun-by m tables ppem who s (spent f) left each is =
 
 pub best-is-bounded : BestIsBounded
 unfolding fitter_of prepared
-best-is-bounded m tables programs ppem s is =
+best-is-bounded m tables programs instance ppem s is =
     let who = dropouts_by fit.Best in
-    let parts = begun_at m programs ppem fit.Best in
-    begun-by m tables ppem who s (work_at m programs ppem fit.Best) (left_at m programs ppem fit.Best)
-    (falls (work_from m programs ppem fit.Best)
+    let parts = begun_at m programs instance ppem fit.Best in
+    begun-by m tables ppem who s (work_at m programs instance ppem fit.Best) (left_at m programs instance ppem fit.Best)
+    (falls (work_from m programs instance ppem fit.Best)
     (where-run (runs_programs fit.Best programs.fpgm programs.prep) (programs_work parts programs)
     (of-programs parts programs)) work_limit) is

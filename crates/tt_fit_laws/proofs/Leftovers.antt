@@ -201,19 +201,20 @@ off-refused s g f was =
 of-fitter : (t s : Fitter) → ◌≡◌ {A = Result Fitter Fault} (Ok t) (Ok s) → s.fallback ≡ t.fallback
 of-fitter t s is = let same : t ≡ s = cc in ap (λ (x : Fitter). x.fallback) (sym same)
 
-fallback-of : (m : Metrics) (tables : Glyf) (programs : ProgramTables) (ppem : ℕ) (s : Fitter)
-    → fitter_of m tables programs ppem fit.Best ≡ Ok s
-    → s.fallback ≡ (within_work (work_at m programs ppem fit.Best) (left_at m programs ppem fit.Best)).fallback
+fallback-of : (m : Metrics) (tables : Glyf) (programs : ProgramTables) (instance : List ℤ) (ppem : ℕ) (s : Fitter)
+    → fitter_of m tables programs instance ppem fit.Best ≡ Ok s
+    → s.fallback ≡
+    (within_work (work_at m programs instance ppem fit.Best) (left_at m programs instance ppem fit.Best)).fallback
 unfolding fitter_of prepared
-fallback-of m tables programs ppem s is = of-fitter _ s is
+fallback-of m tables programs instance ppem s is = of-fitter _ s is
 
 falls-back : (worked : Worked) (left : Result Hinting Fault) (rest : Option ℕ) → worked ≡ enough rest → left ≡ Ok off
     → (within_work worked left).fallback ≡ where_refused
 falls-back worked left rest pays is = rw (pays, is) refl
 
-nothing-spent : (m : Metrics) (programs : ProgramTables) (ppem : ℕ) → AreEmpty programs
-    → work_at m programs ppem fit.Best ≡ enough (Some work_limit)
-nothing-spent m programs ppem are = rw (are.fpgm, are.prep) refl
+nothing-spent : (m : Metrics) (programs : ProgramTables) (instance : List ℤ) (ppem : ℕ) → AreEmpty programs
+    → work_at m programs instance ppem fit.Best ≡ enough (Some work_limit)
+nothing-spent m programs instance ppem are = rw (are.fpgm, are.prep) refl
 
 -- by its outline a glyph is fitted
 by-outline : (s : Fitter) (g : ℕ) → s.fallback ≡ where_refused → s.hinting ≡ off → HasWork s g
@@ -229,8 +230,9 @@ fitted-off s g falls is =
     (outline_at (with_hinting s s.hinting) s.levels g) refl
 
 pub leftovers-fit : LeftoversFit
-leftovers-fit m tables programs ppem s g are is =
-    let falls = fallback-of m tables programs ppem s is
-    ∙ falls-back (work_at m programs ppem fit.Best) (left_at m programs ppem fit.Best) (Some work_limit)
-    (nothing-spent m programs ppem are) (left-where-empty m programs ppem are) in
-    fitted-off s g falls (off-where-empty m tables programs ppem s are is)
+leftovers-fit m tables programs instance ppem s g are is =
+    let falls = fallback-of m tables programs instance ppem s is
+    ∙ falls-back (work_at m programs instance ppem fit.Best) (left_at m programs instance ppem fit.Best)
+    (Some work_limit)
+    (nothing-spent m programs instance ppem are) (left-where-empty m programs instance ppem are) in
+    fitted-off s g falls (off-where-empty m tables programs instance ppem s are is)

@@ -124,15 +124,16 @@ in-pixels fit.Best other = absurd (other refl)
 scaling-of : (t s : Fitter) → ◌≡◌ {A = Result Fitter Fault} (Ok t) (Ok s) → s.scaling ≡ t.scaling
 scaling-of t s is = let same : t ≡ s = cc in ap (λ (x : Fitter). x.scaling) (sym same)
 
-scales : (m : Metrics) (tables : Glyf) (programs : ProgramTables) (ppem : ℕ) (how : Fit) (s : Fitter)
-    → fitter_of m tables programs ppem how ≡ Ok s → s.scaling ≡ (rules_of how).scaling
+scales : (m : Metrics) (tables : Glyf) (programs : ProgramTables) (instance : List ℤ) (ppem : ℕ) (how : Fit)
+    (s : Fitter)
+    → fitter_of m tables programs instance ppem how ≡ Ok s → s.scaling ≡ (rules_of how).scaling
 unfolding fitter_of
-scales m tables programs ppem how s is =
-    let by_programs = came-through (prepared m programs ppem how) _ s is in scaling-of _ s by_programs.rest
+scales m tables programs instance ppem how s is =
+    let by_programs = came-through (prepared m programs instance ppem how) _ s is in scaling-of _ s by_programs.rest
 
 pub others-measure-in-pixels : OthersMeasureInPixels
-others-measure-in-pixels m tables programs ppem how s g d other is =
-    let exact = scales m tables programs ppem how s is ∙ in-pixels how other in
+others-measure-in-pixels m tables programs instance ppem how s g d other is =
+    let exact = scales m tables programs instance ppem how s is ∙ in-pixels how other in
     let em = units_per_em_of s.metrics in (
       ap (λ way. units_by way d.points (phantom_units s.metrics d.x_min g)) exact,
       ap (λ way. (size_by way s.ppem em).scale.halves) exact,

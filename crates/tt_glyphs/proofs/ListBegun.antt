@@ -79,10 +79,10 @@ charging_tells P tested draw.Memory fails = tt
 
 -- the fitter of a face has its metrics and its size
 of_setting : (m : Metrics) (tables : Glyf) (programs : ProgramTables) (ppem : ℕ) (how : Fit) (s : Fitter)
-    → fitter_of m tables programs ppem how ≡ Ok s → (s.metrics ≡ m) × (s.ppem ≡ ppem)
+    → fitter_of m tables programs [] ppem how ≡ Ok s → (s.metrics ≡ m) × (s.ppem ≡ ppem)
 unfolding fitter_of
 of_setting m tables programs ppem how s was =
-    let by_hints = came-through (prepared m programs ppem how) _ s was in
+    let by_hints = came-through (prepared m programs [] ppem how) _ s was in
     let rest = by_hints.rest in
     let metrics : s.metrics ≡ m = cc in
     let size : s.ppem ≡ ppem = cc in (metrics, size)

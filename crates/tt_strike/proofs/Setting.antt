@@ -1,5 +1,5 @@
 -- A line changes nothing of a fitter but its work, which is then set back.
-use Rattle.std.proofs.Common.{◌≡◌, ◌≢◌, ◌∙◌, ℕ, ◌*◌, false, List, Option, None, Ok, sym}
+use Rattle.std.proofs.Common.{◌≡◌, ◌≢◌, ◌∙◌, ℕ, ◌*◌, false, List, Option, None, Ok, sym, []}
 use Rattle.tt_fit.proofs.WorkApart.{charges-take-work-alone, fitters-renew}
 use Rattle.tt_fit.specs.Fitting.{Fitter, with_work}
 use Rattle.tt_fit.specs.GlyphCost.{without_work}
@@ -23,8 +23,9 @@ not_best : (how : Fit) → is_bounded how ≡ false → how ≢ fit.Best
 not_best how other is = absurd (let wrong = rw is at other in cc)
 
 pub unbounded : OthersAreUnbounded → (m : Metrics) (tables : Glyf) (programs : ProgramTables) (ppem : ℕ) (how : Fit)
-    (s : Fitter) → fitter_of m tables programs ppem how ≡ Ok s → is_bounded how ≡ false → s.work ≡ None
-unbounded law m tables programs ppem how s made other = (law m tables programs ppem how s (not_best how other) made).0
+    (s : Fitter) → fitter_of m tables programs [] ppem how ≡ Ok s → is_bounded how ≡ false → s.work ≡ None
+unbounded law m tables programs ppem how s made other =
+    (law m tables programs [] ppem how s (not_best how other) made).0
 
 -- a fitter with unbounded work is unchanged after a cost and some glyphs
 pub unspent : UnboundedStays → (s t u : Fitter) (gs numbers : List ℕ) → t ≡ started s gs → u ≡ fitter_after t numbers

@@ -1,5 +1,5 @@
 -- The defects reported by the steps of a drawing, joined.
-use Rattle.std.proofs.Common.{◌≡◌, ℕ, List, map, Result, Ok, Err, inl, inr, subst}
+use Rattle.std.proofs.Common.{◌≡◌, ℕ, List, map, Result, Ok, Err, inl, inr, subst, []}
 use Rattle.std.specs.Prelude.{IsOkAnd, IfSome}
 use Rattle.tt_core.specs.Chains.{came-through, was-err}
 use Rattle.tt_face.specs.declared.rules.Opening.{Opening}
@@ -29,23 +29,23 @@ use Rattle.tt_strike.proofs.Drawn.{defect_of_line, no_defect_of_line}
 
 -- a report about a fitter, with the fit of the job
 pub failed_by : {fit : Fit} (m : Metrics) (tables : Glyf) (programs : ProgramTables) (ppem : ℕ) (asked : Fit)
-    (e : FontFault) → FontGives {X = Fitter} (λ f. f) (Err e) (fitter_of m tables programs ppem fit) → fit ≡ asked
-    → FontGives {X = Fitter} (λ f. f) (Err e) (fitter_of m tables programs ppem asked)
+    (e : FontFault) → FontGives {X = Fitter} (λ f. f) (Err e) (fitter_of m tables programs [] ppem fit) → fit ≡ asked
+    → FontGives {X = Fitter} (λ f. f) (Err e) (fitter_of m tables programs [] ppem asked)
 failed_by m tables programs ppem asked e fails same =
-    let P : Fit → Type 0 = λ fit. FontGives {X = Fitter} (λ f. f) (Err e) (fitter_of m tables programs ppem fit) in
+    let P : Fit → Type 0 = λ fit. FontGives {X = Fitter} (λ f. f) (Err e) (fitter_of m tables programs [] ppem fit) in
     subst P same fails
 
 pub made_by : {fit : Fit} (m : Metrics) (tables : Glyf) (programs : ProgramTables) (ppem : ℕ) (asked : Fit)
-    (s : Fitter) → fitter_of m tables programs ppem fit ≡ Ok s → fit ≡ asked
-    → fitter_of m tables programs ppem asked ≡ Ok s
+    (s : Fitter) → fitter_of m tables programs [] ppem fit ≡ Ok s → fit ≡ asked
+    → fitter_of m tables programs [] ppem asked ≡ Ok s
 made_by m tables programs ppem asked s made same =
-    let P : Fit → Type 0 = λ fit. fitter_of m tables programs ppem fit ≡ Ok s in subst P same made
+    let P : Fit → Type 0 = λ fit. fitter_of m tables programs [] ppem fit ≡ Ok s in subst P same made
 
 -- a fitter without a result has the fault of its programs
 preparation-fault : (m : Metrics) (tables : Glyf) (programs : ProgramTables) (ppem : ℕ) (how : Fit) (f : Fault)
-    → fitter_of m tables programs ppem how ≡ Err f → prepared m programs ppem how ≡ Err f
+    → fitter_of m tables programs [] ppem how ≡ Err f → prepared m programs [] ppem how ≡ Err f
 unfolding fitter_of
-preparation-fault m tables programs ppem how f fails = elim (was-err (prepared m programs ppem how) _ f fails) [
+preparation-fault m tables programs ppem how f fails = elim (was-err (prepared m programs [] ppem how) _ f fails) [
   | inl preparing ↦ preparing
   | inr later ↦ let never = later.rest in absurd (cc)
 ]
@@ -53,30 +53,31 @@ preparation-fault m tables programs ppem how f fails = elim (was-err (prepared m
 -- a fault of preparing the programs is a defect of the fitter
 pub preparing_tells : (face : Face) (a : Job) (tables : Glyf) (programs : ProgramTables)
     → programs_in face a.fit ≡ Ok programs → (e : FontFault) → FontGives {X = Fitter} (λ f. f) (Err e)
-    (fitter_of face.metrics tables programs a.ppem a.fit) → IfSome (font_fault e) (IsSettingDefect face a)
+    (fitter_of face.metrics tables programs [] a.ppem a.fit) → IfSome (font_fault e) (IsSettingDefect face a)
 preparing_tells face a tables programs there (fault.Font f) fails =
     inr (inr (rw there (preparation-fault face.metrics tables programs a.ppem a.fit f fails)))
 preparing_tells face a tables programs there fault.Memory fails = tt
 
 -- a fitter with a result has programs without a fault
 prepared-without-fault : (m : Metrics) (tables : Glyf) (programs : ProgramTables) (ppem : ℕ) (how : Fit)
-    (s : Fitter) (f : Fault) → fitter_of m tables programs ppem how ≡ Ok s → prepared m programs ppem how ≡ Err f → ⊥
+    (s : Fitter) (f : Fault) → fitter_of m tables programs [] ppem how ≡ Ok s
+    → prepared m programs [] ppem how ≡ Err f → ⊥
 unfolding fitter_of
 prepared-without-fault m tables programs ppem how s f made fails =
-    let by_hints = came-through (prepared m programs ppem how) _ s made in
+    let by_hints = came-through (prepared m programs [] ppem how) _ s made in
     let first = by_hints.first in
     absurd (cc)
 
 pub no_setting_defect : (face : Face) (a : Job) (tables : Glyf) (programs : ProgramTables) (s : Fitter)
     → HasNo (IsGlyphTableDefect face) → HasNo (IsProgramTableDefect face a.fit)
-    → programs_in face a.fit ≡ Ok programs → fitter_of face.metrics tables programs a.ppem a.fit ≡ Ok s
+    → programs_in face a.fit ≡ Ok programs → fitter_of face.metrics tables programs [] a.ppem a.fit ≡ Ok s
     → HasNo (IsSettingDefect face a)
 no_setting_defect face a tables programs s good kept there made = λ fault defect. elim defect [
   | inl of_tables ↦ good fault of_tables
   | inr (inl of_programs) ↦ kept fault of_programs
   | inr (inr preparing) ↦
       let P : Result ProgramTables Fault → Type 0 = λ r. IsOkAnd r
-      (λ t. prepared face.metrics t a.ppem a.fit ≡ Err fault) in
+      (λ t. prepared face.metrics t [] a.ppem a.fit ≡ Err fault) in
       prepared-without-fault face.metrics tables programs a.ppem a.fit s fault made (subst P there preparing)
 ]
 

@@ -1,5 +1,5 @@
 -- The defects that a call can meet in a font.
-use Rattle.std.specs.Prelude.{◌≡◌, ◌<◌, List, ℕ, length, map, slice_index, Option, Result, Ok, Err, IsOkAnd, IfSome, Bool, true, false, ◌⊎◌}
+use Rattle.std.specs.Prelude.{◌≡◌, ◌<◌, List, ℕ, length, map, slice_index, Option, Result, Ok, Err, IsOkAnd, IfSome, Bool, true, false, ◌⊎◌, []}
 use Rattle.tt_face.specs.declared.rules.Opening.{Opening}
 use Rattle.tt_core.specs.Faults.{Fault}
 use Rattle.tt_core.specs.Directory.{HasNo}
@@ -38,7 +38,7 @@ IsProgramTableDefect face fit.Best fault = HasProgramPastEnd face.directory faul
 -- no defect
 abbrev pub IsPreparationDefect : Face → Job → Fault → Type 0
 IsPreparationDefect face a fault = IsOkAnd (programs_in face a.fit)
-    (λ programs. prepared face.metrics programs a.ppem a.fit ≡ Err fault)
+    (λ programs. prepared face.metrics programs [] a.ppem a.fit ≡ Err fault)
 
 -- a defect of the fitter's tables and programs
 abbrev pub IsSettingDefect : Face → Job → Fault → Type 0

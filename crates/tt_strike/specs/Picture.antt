@@ -1,7 +1,7 @@
 -- The picture of a line of text: each glyph's outline moved to its pen, blackened by the scan converter's rules
 -- (OpenType, "TrueType Fundamentals"). Margins and limits are profile. With best a line is laid out by the steps of its
 -- glyphs, which are made first. With any other fit it is laid out by advances. Kerning counts in both.
-use Rattle.std.specs.Prelude.{ℕ, ℤ, if◌then◌else◌, List, map, Result, Ok}
+use Rattle.std.specs.Prelude.{ℕ, ℤ, if◌then◌else◌, List, map, Result, Ok, []}
 use Rattle.tt_face.specs.declared.rules.Opening.{Opening}
 use Rattle.tt_core.specs.declared.fault.JobFault.{JobFault}
 use Rattle.tt_core.specs.Faults.{Fault}
@@ -31,7 +31,7 @@ unfoldable pub setting : Face → ℕ → Fit → Result Fitter Fault
 setting face ppem how = do
   tables ← glyphs_in face
   programs ← programs_in face how
-  fitter_of face.metrics tables programs ppem how
+  fitter_of face.metrics tables programs [] ppem how
 
 abbrev pub setting_in : Face → Job → Result Fitter Fault
 setting_in face a = setting face a.ppem a.fit

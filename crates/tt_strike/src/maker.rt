@@ -12,7 +12,7 @@ use crate::programs::open_programs;
 use crate::source::FitterSource;
 use std::mem;
 use tt_core::{Fault, FontFault};
-use tt_fit::Fitter;
+use tt_fit::{Fitter, Instance};
 
 /// The state of a strike's fitter.
 #[derive(Drop)]
@@ -40,7 +40,15 @@ impl<'f, 'a> FitterSource<'f, 'a> {
         let glyf = self.face.glyf()?;
         let programs = open_programs(self.face, self.fit)?;
         let metrics = self.face.metrics();
-        Ok(Fitter::new(self.alloc, metrics, glyf, programs, self.ppem, self.fit)?)
+        Ok(Fitter::new(
+            self.alloc,
+            metrics,
+            glyf,
+            programs,
+            Instance::none(),
+            self.ppem,
+            self.fit,
+        )?)
     }
 }
 

@@ -1,5 +1,5 @@
 -- Faces with the same tables, the same metrics and the same glyphs for a text give the same picture.
-use Rattle.std.proofs.Common.{◌≡◌, ◌∙◌, ℕ, if◌then◌else◌, List, Option, Result, Ok, Err, refl, sym, ap}
+use Rattle.std.proofs.Common.{◌≡◌, ◌∙◌, ℕ, if◌then◌else◌, List, Option, Result, Ok, Err, refl, sym, ap, []}
 use Rattle.tt_core.specs.Directory.{Directory, needed_table, or_missing}
 use Rattle.tt_core.specs.Faults.{Fault}
 use Rattle.tt_core.specs.Outcomes.{◌>>=◌}
@@ -92,7 +92,7 @@ fitting_same f g fit.Best same = programs_same f.directory g.directory same
 
 -- the fitter
 abbrev setting_by : Result Glyf Fault → Result ProgramTables Fault → Metrics → ℕ → Fit → Result Fitter Fault
-setting_by tables programs m ppem how = tables >>= λ t. programs >>= λ p. fitter_of m t p ppem how
+setting_by tables programs m ppem how = tables >>= λ t. programs >>= λ p. fitter_of m t p [] ppem how
 
 setting_same : (f g : Face) (a : Job) → SameTables f.directory g.directory → f.metrics ≡ g.metrics
     → setting_in f a ≡ setting_in g a

@@ -12,7 +12,7 @@ use crate::tables::{note_glyph, programs_of, tables_of};
 use std::alloc::Global;
 use tt_arc::{ChordRule, chords};
 use tt_core::{COORDINATE_LIMIT, FontFault, SIZE_LIMIT};
-use tt_fit::{Fit, Fitter, Outline};
+use tt_fit::{Fit, Fitter, Instance, Outline};
 use tt_scan::{Frame, Tape};
 use tt_test_machine::faults::put_fault;
 use tt_test_pixels::pictures::{frame_in, put_picture};
@@ -29,7 +29,15 @@ pub fn put_table(alloc: Global, line: &mut Line, font: &[u8]) {
     if line.is_refused() {
         return;
     }
-    match Fitter::new(alloc, &metrics, glyphs, programs, size, fit) {
+    match Fitter::new(
+        alloc,
+        &metrics,
+        glyphs,
+        programs,
+        Instance::none(),
+        size,
+        fit,
+    ) {
         Ok(fitter) => put_glyphs(alloc, line, &fitter, metrics.glyphs()),
         Err(_) => line.refuse("the font's programs are refused"),
     }

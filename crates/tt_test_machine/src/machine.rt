@@ -4,6 +4,7 @@
 //!     TABLE BASE CODE EM PPEM CVT STORAGE TWILIGHT GLYPH ENDS
 //!     whole TABLE BASE CODE EM PPEM CVT STORAGE TWILIGHT GLYPH ENDS
 //!     tolerant TABLE BASE CODE EM PPEM CVT STORAGE TWILIGHT GLYPH ENDS
+//!     varied INSTANCE TABLE BASE CODE EM PPEM CVT STORAGE TWILIGHT GLYPH ENDS
 //!     font BASE CODE
 //!
 //! The program of TABLE (fpgm, prep or glyf) begins at the offset BASE there; CODE is its bytes in hexadecimal, or `-`.
@@ -12,7 +13,8 @@
 //! and the sum of 1 if it is touched along x, 2 if along y, and 4 if it is on the curve. The graphics state is the
 //! default one, and the functions are those that the font program defines, run with the same parts. After `whole` both
 //! programs have the whole instruction set, and the instructions too are those that the font program defines. After
-//! `tolerant` they have it too, and both are run by a tolerant machine.
+//! `tolerant` they have it too, and both are run by a tolerant machine. `varied` is `tolerant` at an instance of a
+//! variable font: a count of axes, from 1 to 64, and the place on each in 1/65536.
 //!
 //! The answer of a question is a line too: the fault, or what the run leaves, with a semicolon between the parts: the
 //! number of steps, the stack from the bottom, the fields of the graphics state, of each list the places and values
@@ -27,12 +29,12 @@ ghost use Rattle.tt_core.specs.Faults.{is_ascii};
 mod parts;
 mod state;
 
-use self::parts::{Rules, parts_in};
+use self::parts::{Rules, instance_in, parts_in};
 use self::state::put_parts;
 use crate::faults::put_fault;
 use std::alloc::Global;
 use std::mem::swap;
-use tt_exec::{Code, ExecFault, Functions, Machine, Parts};
+use tt_exec::{Code, ExecFault, Functions, Instance, Machine, Parts};
 use tt_test_words::{Line, MOST};
 
 /// A program: the offset of its first byte in its table, and its bytes.
@@ -88,21 +90,33 @@ pub fn answer(alloc: Global, line: &mut Line, font: &mut Program) {
         }
         "whole" => {
             let word = line.word();
-            answer_by(alloc, line, font, Rules::Whole, word);
+            answer_by(alloc, line, font, Rules::Whole, Instance::none(), word);
         }
         "tolerant" => {
             let word = line.word();
-            answer_by(alloc, line, font, Rules::Tolerant, word);
+            answer_by(alloc, line, font, Rules::Tolerant, Instance::none(), word);
         }
-        word => answer_by(alloc, line, font, Rules::Profile, word),
+        "varied" => {
+            let instance = instance_in(line);
+            let word = line.word();
+            answer_by(alloc, line, font, Rules::Tolerant, instance, word);
+        }
+        word => answer_by(alloc, line, font, Rules::Profile, Instance::none(), word),
     }
 }
 
 /// Answers a question about a program of a table.
-fn answer_by(alloc: Global, line: &mut Line, font: &Program, rules: Rules, table: &str) {
+fn answer_by(
+    alloc: Global,
+    line: &mut Line,
+    font: &Program,
+    rules: Rules,
+    instance: Instance,
+    table: &str,
+) {
     let table = table_named(line, table);
     let program = program_in(alloc, line);
-    let parts = parts_in(alloc, line, rules);
+    let parts = parts_in(alloc, line, rules, instance);
     line.end();
     if !line.is_refused() {
         run(

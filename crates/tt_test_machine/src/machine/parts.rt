@@ -6,7 +6,7 @@ ghost use Rattle.tt_points_zones.specs.Zones.{AreContours, IsPoint};
 
 use std::alloc::Global;
 use tt_core::{COORDINATE_LIMIT, Halves, SIZE_LIMIT, Scale};
-use tt_exec::{Functions, Parts};
+use tt_exec::{Functions, Instance, Parts};
 use tt_points_zones::{Originals, Zones};
 use tt_state::{GraphicsState, Point, Tolerance};
 use tt_test_words::{Line, MOST};
@@ -131,8 +131,25 @@ impl Rules {
     }
 }
 
+/// The instance that the next words are: the count of axes, and the place on each in 1/65536.
+pub(crate) fn instance_in(line: &mut Line) -> Instance {
+    let mut instance = Instance::none();
+    for _ in 0..line.natural(1, 64) {
+        let coordinate = line.number(-65_536, 65_536) as i32;
+        if instance.coordinates().len() < 64 {
+            instance.push(coordinate);
+        }
+    }
+    instance
+}
+
 /// The parts that the next words are, of a machine by these rules.
-pub(crate) fn parts_in<'a>(alloc: Global, line: &mut Line, rules: Rules) -> Parts<'a> {
+pub(crate) fn parts_in<'a>(
+    alloc: Global,
+    line: &mut Line,
+    rules: Rules,
+    instance: Instance,
+) -> Parts<'a> {
     let em = line.natural(16, 16384) as u16;
     let ppem = line.natural(1, SIZE_LIMIT);
     let cvt = numbers_in(alloc, line);
@@ -147,6 +164,7 @@ pub(crate) fn parts_in<'a>(alloc: Global, line: &mut Line, rules: Rules) -> Part
         functions: Functions::new(alloc),
         instructions: Functions::new(alloc),
         state: GraphicsState::new(rules.are_whole()),
+        instance,
         tolerance: rules.tolerance(),
         skip_glyphs: false,
         default_state: false,
