@@ -1,3 +1,4 @@
+mod Instances
 mod Plain
 mod Readings
 pub mod Whole
