@@ -1,8 +1,5 @@
 //! The horizontal header. Apple TrueType Reference Manual, "The 'hhea' table".
 
-ghost use Rattle.std.specs.Prelude.{◌≡◌};
-ghost use Rattle.tt_metrics.specs.Varied.{hhea_by, moved_hhea};
-
 use crate::table::{Fields, test_length};
 use tt_axes::InstanceCoordinates;
 use tt_core::{Fault, Why, i16_at, u16_at};
@@ -50,6 +47,9 @@ impl Fields for Hhea {
 }
 
 impl Hhea {
+    ghost use Rattle.std.specs.Prelude.{◌≡◌};
+    ghost use Rattle.tt_metrics.specs.Varied.{hhea_by, moved_hhea};
+
     /// The same with the heights of an instance.
     fn moved(self, mvar: &Mvar, coordinates: &InstanceCoordinates) -> Hhea
         ensures { result ≡ moved_hhea mvar.now coordinates.now self }

@@ -1,0 +1,6 @@
+pub mod Ends
+pub mod Fine
+pub mod Glyph
+pub mod Moved
+pub mod Records
+pub mod Views

@@ -1,0 +1,134 @@
+//! The points of a glyph with the deltas of an instance. OpenType, "gvar".
+
+ghost use Rattle.std.specs.Prelude.{◌≡◌, ◌+◌, ◌++◌, ◌^◌, ◌≤◌, [], length, map, All, IfOk};
+ghost use Rattle.tt_core.specs.Limits.{component_limit, font_limit, point_limit};
+ghost use Rattle.tt_core.specs.Outcomes.{FontGives};
+ghost use Rattle.tt_deltas.specs.Along.{IsStill, IsWithin};
+ghost use Rattle.tt_glyf.specs.Meaning.{AreEnds};
+ghost use Rattle.tt_fit_variation.specs.Glyph.{composite_deltas, four_ends, parts_still, simple_deltas, simple_points, still};
+ghost use Rattle.tt_fit_variation.specs.Ends.{end_deltas};
+ghost use Rattle.tt_fit_variation.specs.Views.{deltas_view, glyph_view};
+
+use crate::end::EndDeltas;
+use crate::ends::end_deltas;
+use crate::varied_glyph::GlyphDeltas;
+use std::alloc::{AllocError, Global};
+use tt_axes::InstanceCoordinates;
+use tt_core::FontFault;
+use tt_deltas::{Gvar, Varied};
+use tt_glyf::{RawPoint, Record};
+
+/// The variations of a font's glyphs at an instance.
+#[derive(Clone, Copy)]
+pub struct GlyphVariation<'v, 'a> {
+    pub gvar: &'v Gvar<'a>,
+    pub coordinates: &'v InstanceCoordinates,
+}
+
+/// A coordinate that has not moved.
+fn still(at: i16) -> Varied
+    ensures { result ≡ still at }
+{
+    Varied { at, delta: 0 }
+}
+
+/// The coordinates, and those of four phantom points.
+fn with_ends(coordinates: Vec<Varied>) -> Result<Vec<Varied>, AllocError>
+    requires { All IsStill coordinates.items }
+    ensures exact { IfOk result (λ v. v.items ≡ coordinates.items ++ four_ends) }
+    ensures still { IfOk result (λ v. All IsStill v.items) }
+    ensures count { IfOk result (λ v. length v.items ≡ length coordinates.items + 4) }
+{
+    let mut all = coordinates;
+    for _ in 0..4 {
+        all.push(still(0))?;
+    }
+    Ok(all)
+}
+
+/// Of a simple glyph's points x, not moved, and the phantom points.
+fn still_xs(alloc: Global, points: &[RawPoint]) -> Result<Vec<Varied>, AllocError>
+    ensures exact { IfOk result (λ v. v.items ≡ (simple_points points.now).xs) }
+    ensures still { IfOk result (λ v. All IsStill v.items) }
+    ensures count { IfOk result (λ v. length v.items ≡ length points.now + 4) }
+{
+    let xs = points.iter().map(|p| still(p.x)).collect(alloc)?;
+    with_ends(xs)
+}
+
+/// Of a simple glyph's points y, not moved, and the phantom points.
+fn still_ys(alloc: Global, points: &[RawPoint]) -> Result<Vec<Varied>, AllocError>
+    ensures exact { IfOk result (λ v. v.items ≡ (simple_points points.now).ys) }
+    ensures still { IfOk result (λ v. All IsStill v.items) }
+    ensures count { IfOk result (λ v. length v.items ≡ length points.now + 4) }
+{
+    let ys = points.iter().map(|p| still(p.y)).collect(alloc)?;
+    with_ends(ys)
+}
+
+/// For each component of a composite glyph a coordinate, not moved, and the phantom points.
+fn still_parts(alloc: Global, records: &[Record]) -> Result<Vec<Varied>, AllocError>
+    ensures exact { IfOk result (λ v. v.items ≡ parts_still records.now) }
+    ensures still { IfOk result (λ v. All IsStill v.items) }
+    ensures count { IfOk result (λ v. length v.items ≡ length records.now + 4) }
+{
+    let parts = records.iter().map(|_| still(0)).collect(alloc)?;
+    with_ends(parts)
+}
+
+impl GlyphVariation<'_, '_> {
+    /// The points of a simple glyph with their deltas. Errors: GlyphVariation, Memory.
+    pub fn of_simple(
+        &self,
+        alloc: Global,
+        g: u16,
+        points: &[RawPoint],
+        ends: &[u16],
+    ) -> Result<GlyphDeltas, FontFault>
+        requires few { length points.now ≤ point_limit }
+        requires ends { AreEnds (length points.now) ends.now }
+        ensures exact { FontGives glyph_view result (simple_deltas self.now.gvar.now self.now.coordinates.now g points.now ends.now) }
+        ensures count { IfOk result (λ d. d.points ≡ length points.now) }
+    {
+        let mut xs = still_xs(alloc, points)?;
+        let mut ys = still_ys(alloc, points)?;
+        self.gvar
+            .vary(alloc, g, self.coordinates, &mut xs, &mut ys, ends)?;
+        Ok(GlyphDeltas {
+            xs,
+            ys,
+            points: points.len(),
+        })
+    }
+
+    /// The components of a composite glyph with their deltas. An empty glyph has none. Errors: GlyphVariation, Memory.
+    pub fn of_composite(
+        &self,
+        alloc: Global,
+        g: u16,
+        records: &[Record],
+    ) -> Result<GlyphDeltas, FontFault>
+        requires few { length records.now ≤ component_limit }
+        ensures exact { FontGives glyph_view result (composite_deltas self.now.gvar.now self.now.coordinates.now g records.now) }
+        ensures count { IfOk result (λ d. d.points ≡ length records.now) }
+    {
+        let mut xs = still_parts(alloc, records)?;
+        let mut ys = still_parts(alloc, records)?;
+        self.gvar
+            .vary(alloc, g, self.coordinates, &mut xs, &mut ys, &[])?;
+        Ok(GlyphDeltas {
+            xs,
+            ys,
+            points: records.len(),
+        })
+    }
+}
+
+impl GlyphDeltas {
+    /// The deltas of the phantom points. Where HVAR gives the advance, its right end does not move by gvar.
+    pub fn ends(&self, by_hvar: bool) -> EndDeltas
+        ensures { deltas_view result ≡ end_deltas by_hvar self.now.points (glyph_view self.now) }
+    {
+        end_deltas(by_hvar, self.points, &self.xs, &self.ys)
+    }
+}
