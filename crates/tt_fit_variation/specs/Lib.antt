@@ -1,3 +1,4 @@
+pub mod Advance
 pub mod Ends
 pub mod Fine
 pub mod Glyph

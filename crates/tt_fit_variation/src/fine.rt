@@ -2,9 +2,10 @@
 
 ghost use Rattle.std.specs.Prelude.{◌≡◌, ◌*◌, ◌*ℤ◌, ◌^◌, ◌<◌, ◌≤◌, pos, unsigned_abs};
 ghost use Rattle.tt_core.specs.Scales.{IsScale};
-ghost use Rattle.tt_fit_variation.specs.Fine.{fine_scaled, scaled_twice};
+ghost use Rattle.tt_fit_variation.specs.Fine.{fine_scaled, scaled_twice, varied_control_value};
 
 use tt_core::{Halves, Scale, quotient, rq};
+use tt_deltas::{Varied, moved_control_value};
 
 /// `u` times `pixels`.
 fn product(u: i64, pixels: u32) -> i64
@@ -38,4 +39,15 @@ pub(crate) fn fine_scaled(scale: Scale, u: i64) -> i64
         Halves::Up => rq(n, 64 * i64::from(scale.units)),
         Halves::AwayFromZero => scaled_twice(n, scale.units),
     }
+}
+
+/// A control value at an instance as 26.6, by the scale of control values.
+pub fn varied_control_value(scale: Scale, value: Varied) -> i64
+    requires valid { IsScale scale }
+    requires near { unsigned_abs value.delta ≤ 2 ^ 46 }
+    ensures exact { result ≡ varied_control_value scale value }
+    ensures bound { unsigned_abs result ≤ 1200 * 32768 }
+{
+    let n = product(i64::from(moved_control_value(value)), scale.pixels);
+    quotient(scale.halves, n, 64 * i64::from(scale.units))
 }
