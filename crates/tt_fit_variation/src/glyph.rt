@@ -40,9 +40,10 @@ fn with_ends(coordinates: Vec<Varied>) -> Result<Vec<Varied>, AllocError>
     ensures count { IfOk result (λ v. length v.items ≡ length coordinates.items + 4) }
 {
     let mut all = coordinates;
-    for _ in 0..4 {
-        all.push(still(0))?;
-    }
+    all.push(still(0))?;
+    all.push(still(0))?;
+    all.push(still(0))?;
+    all.push(still(0))?;
     Ok(all)
 }
 
