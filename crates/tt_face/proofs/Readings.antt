@@ -159,7 +159,7 @@ abbrev by-wide-table : Directory → ℕ → Metrics → List ℕ → Result Fac
 by-wide-table d n m table = map_by (reading.Wide n) table (glyphs_of m) >>= λ k. Ok (face-of d m k)
 
 abbrev moved : Directory → Result Face Fault → Result Face Fault
-moved e f = f >>= λ face. Ok (record { directory = e; metrics = face.metrics; cmap = face.cmap; instance = None })
+moved e f = f >>= λ face. Ok (record { directory = e; metrics = face.metrics; cmap = face.cmap; instance = face.instance })
 
 map-moves : (c : Result CharacterMap Fault) (d e : Directory) (m : Metrics)
     → ◌≡◌ {A = Result Face Fault} (c >>= λ k. Ok (face-of e m k)) (moved e (c >>= λ k. Ok (face-of d m k)))
@@ -240,5 +240,6 @@ wide-faces-extend file face was =
           by_table.first more.given;
       directory = refl;
       metrics = refl;
+      instance = refl;
       same = more.same;
     })

@@ -70,7 +70,7 @@ SameTables d e = (tag : List ℕ) → table_of d tag ≡ table_of e tag
 -- The number of a face says only where the directory is
 abbrev pub FacesAreTheirFonts : Type 0
 FacesAreTheirFonts = (d e : Directory) (n k : ℕ) → SameTables d e → face_at e (reading.Wide k)
-    ≡ (face_at d (reading.Wide n) >>= λ f. Ok (record { directory = e; metrics = f.metrics; cmap = f.cmap; instance = None }))
+    ≡ (face_at d (reading.Wide n) >>= λ f. Ok (record { directory = e; metrics = f.metrics; cmap = f.cmap; instance = f.instance }))
 
 -- the wide reading extends a face of the strict reading: the same directory and metrics, and the same glyph for each
 -- character
@@ -79,6 +79,7 @@ pub record ExtendsFace (file : List ℕ) (face : Face) : Type 0 where
   pub given : face_by file (reading.Wide 0) ≡ Ok wide
   pub directory : wide.directory ≡ face.directory
   pub metrics : wide.metrics ≡ face.metrics
+  pub instance : wide.instance ≡ face.instance
   pub same : (c : ℕ) → glyph_by wide.cmap c ≡ glyph_by face.cmap c
 
 abbrev pub WideFacesExtend : Type 0

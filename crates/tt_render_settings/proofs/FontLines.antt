@@ -58,7 +58,7 @@ face_directory d r face was =
     let by_metrics = came-through (metrics_of d) _ face was in
     let by_table = came-through (needed_table d cmap_tag) _ face by_metrics.rest in
     let by_map = came-through (map_by r by_table.value (glyphs_of by_metrics.value)) _ face by_table.rest in
-    let same : record { directory = d; metrics = by_metrics.value; cmap = by_map.value } ≡ face = let done = by_map.rest in cc in
+    let same : record { directory = d; metrics = by_metrics.value; cmap = by_map.value; instance = None } ≡ face = let done = by_map.rest in cc in
     ap (λ (f : Face). f.directory) same
 
 -- the directory of a face is in the file that was read
