@@ -1,5 +1,5 @@
 -- The strike of a job is that of the font's tables.
-use Rattle.std.proofs.Common.{◌≡◌, ◌≤◌, List, ℕ, Bool, true, false, Result, Ok, Err, IfSome, length, nat_lt, if◌then◌else◌, ap, arith, refl}
+use Rattle.std.proofs.Common.{◌≡◌, ◌≤◌, List, ℕ, Bool, true, false, None, Result, Ok, Err, IfSome, length, nat_lt, if◌then◌else◌, ap, arith, refl}
 use Rattle.std.proofs.lemmas.Bool.Decides.{nat_tests}
 use Rattle.tt_cmap.specs.Maps.{map_by}
 use Rattle.tt_core.specs.Chains.{came-through}

@@ -1,5 +1,5 @@
 -- A call that stops before it reads a line, and the font that lines are drawn by.
-use Rattle.std.proofs.Common.{◌≡◌, ◌∙◌, ap, sym, ℕ, ◌≤◌, Bool, false, nat_lt, List, length, Option, Result, Ok, Err, IfSome, refl, arith}
+use Rattle.std.proofs.Common.{◌≡◌, ◌∙◌, ap, sym, ℕ, ◌≤◌, Bool, false, nat_lt, List, length, Option, None, Result, Ok, Err, IfSome, refl, arith}
 use Rattle.std.proofs.lemmas.Bool.Decides.{nat_tests}
 use Rattle.tt_core.specs.Chains.{came-through}
 use Rattle.tt_core.specs.Collections.{directory_at, directory_by, offset_of}

@@ -1,5 +1,5 @@
 -- The answers of `run` and `map` by the strict reading, by the wide one, and by a face's own font.
-use Rattle.std.proofs.Common.{◌≡◌, ◌∙◌, ℕ, ◌≤◌, Bool, true, false, nat_lt, if◌then◌else◌, All, List, [], ◌∷◌, ◌++◌, length, map, flat_map, chars, Result, Ok, Err, refl, sym, ap, ap₂, arith}
+use Rattle.std.proofs.Common.{◌≡◌, ◌∙◌, ℕ, ◌≤◌, Bool, true, false, nat_lt, if◌then◌else◌, All, List, [], ◌∷◌, ◌++◌, length, map, flat_map, chars, Option, Some, None, Result, Ok, Err, refl, sym, ap, ap₂, arith}
 use Rattle.std.proofs.lemmas.Bool.Decides.{nat_tests}
 use Rattle.tt_cmap.specs.Lookup.{Cmap, glyph_of}
 use Rattle.tt_cmap.specs.Maps.{CharacterMap, strict, wide, glyph_by, glyph_of_unit, map_by, units_by}
@@ -16,7 +16,7 @@ use Rattle.tt_core.specs.Faults.{Fault}
 use Rattle.tt_core.specs.Limits.{font_limit}
 use Rattle.tt_core.specs.Outcomes.{◌>>=◌}
 use Rattle.tt_face.specs.declared.rules.LineRules.{LineRules}
-use Rattle.tt_face.specs.Faces.{Face, cmap_tag}
+use Rattle.tt_face.specs.Faces.{Face, FaceInstance, cmap_tag}
 use Rattle.tt_face.specs.Files.{FacesAreTheirFonts, SameTables, StrictIsTheFace, WideFacesExtend, face_at, face_by, face_of, face_with}
 use Rattle.tt_face.specs.Rules.{gdef_tag, gpos_tag, kern_tag, kerning_by, ruled, table_bytes}
 use Rattle.tt_line.specs.Layout.{text_glyphs}
