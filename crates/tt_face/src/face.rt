@@ -139,7 +139,8 @@ impl<'a> Face<'a> {
         match asked {
             Some(asked) => {
                 let coordinates = asked_coordinates(&self.dir, asked)?;
-                self.set_coordinates(&coordinates)
+                self.set_coordinates(&coordinates)?;
+                Ok(())
             }
             None => Ok(()),
         }

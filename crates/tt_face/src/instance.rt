@@ -71,17 +71,6 @@ impl<'a> FaceInstance<'a> {
         }
     }
 
-    /// A copy. The bytes are not copied.
-    pub fn copy(&self) -> FaceInstance<'a>
-        ensures { result ≡ self.now }
-    {
-        FaceInstance {
-            coordinates: self.coordinates.copy(),
-            gvar: self.gvar.copy(),
-            cvar: self.cvar,
-        }
-    }
-
     /// The coordinates, of which at least one is not 0.
     pub fn coordinates(&self) -> &InstanceCoordinates
         ensures { result.now ≡ self.now.coordinates }
@@ -126,9 +115,10 @@ fn number_of(dir: &Dir, fvar: &Fvar, named: NamedBy) -> u32
 {
     match named {
         NamedBy::Number(k) => k,
-        NamedBy::Name(name) => {
-            first_with_name(dir, fvar, name).unwrap_or(fvar.instance_count()) as u32
-        }
+        NamedBy::Name(name) => match first_with_name(dir, fvar, name) {
+            Some(k) => k as u32,
+            None => fvar.instance_count() as u32,
+        },
     }
 }
 
@@ -158,5 +148,6 @@ pub(crate) fn asked_coordinates(
     ensures fault { IfErr result (IsAskedDefect dir.now (asked_view asked.entry)) }
 {
     let named = asked_number(dir, asked.named)?;
-    coordinates_of(dir, named, asked.axes)
+    let coordinates = coordinates_of(dir, named, asked.axes)?;
+    Ok(coordinates)
 }

@@ -16,15 +16,22 @@ still v = record { at = v; delta = pos 0 }
 abbrev pub four_ends : List Varied
 four_ends = still (pos 0) ∷ still (pos 0) ∷ still (pos 0) ∷ still (pos 0) ∷ []
 
+abbrev pub still_x : RawPoint → Varied
+still_x p = still p.x
+
+abbrev pub still_y : RawPoint → Varied
+still_y p = still p.y
+
+-- a component has a number, but no coordinate by which deltas are inferred
+abbrev pub still_part : Record → Varied
+still_part r = still (pos 0)
+
 -- the coordinates of a simple glyph before its deltas
 abbrev pub simple_points : List RawPoint → VariedPoints
-simple_points points = record {
-  xs = map (λ p. still p.x) points ++ four_ends;
-  ys = map (λ p. still p.y) points ++ four_ends;
-}
+simple_points points = record { xs = map still_x points ++ four_ends; ys = map still_y points ++ four_ends }
 
 abbrev pub parts_still : List Record → List Varied
-parts_still records = map (λ r. still (pos 0)) records ++ four_ends
+parts_still records = map still_part records ++ four_ends
 
 -- those of a composite glyph
 abbrev pub composite_points : List Record → VariedPoints

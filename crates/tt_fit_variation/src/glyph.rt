@@ -5,7 +5,7 @@ ghost use Rattle.tt_core.specs.Limits.{component_limit, font_limit, point_limit}
 ghost use Rattle.tt_core.specs.Outcomes.{FontGives};
 ghost use Rattle.tt_deltas.specs.Along.{IsStill, IsWithin};
 ghost use Rattle.tt_glyf.specs.Meaning.{AreEnds};
-ghost use Rattle.tt_fit_variation.specs.Glyph.{composite_deltas, four_ends, parts_still, simple_deltas, simple_points, still};
+ghost use Rattle.tt_fit_variation.specs.Glyph.{composite_deltas, four_ends, simple_deltas, still_part, still_x, still_y};
 ghost use Rattle.tt_fit_variation.specs.Ends.{end_deltas};
 ghost use Rattle.tt_fit_variation.specs.Views.{deltas_view, glyph_view};
 
@@ -25,12 +25,8 @@ pub struct GlyphVariation<'v, 'a> {
     pub coordinates: &'v InstanceCoordinates,
 }
 
-/// A coordinate that has not moved.
-fn still(at: i16) -> Varied
-    ensures { result ≡ still at }
-{
-    Varied { at, delta: 0 }
-}
+/// A phantom point's coordinate, not moved. Only coordinates of contours are looked at.
+const END: Varied = Varied { at: 0, delta: 0 };
 
 /// The coordinates, and those of four phantom points.
 fn with_ends(coordinates: Vec<Varied>) -> Result<Vec<Varied>, AllocError>
@@ -40,41 +36,44 @@ fn with_ends(coordinates: Vec<Varied>) -> Result<Vec<Varied>, AllocError>
     ensures count { IfOk result (λ v. length v.items ≡ length coordinates.items + 4) }
 {
     let mut all = coordinates;
-    all.push(still(0))?;
-    all.push(still(0))?;
-    all.push(still(0))?;
-    all.push(still(0))?;
+    all.push(END)?;
+    all.push(END)?;
+    all.push(END)?;
+    all.push(END)?;
     Ok(all)
 }
 
-/// Of a simple glyph's points x, not moved, and the phantom points.
+/// x of points, not moved.
 fn still_xs(alloc: Global, points: &[RawPoint]) -> Result<Vec<Varied>, AllocError>
-    ensures exact { IfOk result (λ v. v.items ≡ (simple_points points.now).xs) }
+    ensures exact { IfOk result (λ v. v.items ≡ map still_x points.now) }
     ensures still { IfOk result (λ v. All IsStill v.items) }
-    ensures count { IfOk result (λ v. length v.items ≡ length points.now + 4) }
 {
-    let xs = points.iter().map(|p| still(p.x)).collect(alloc)?;
-    with_ends(xs)
+    points
+        .iter()
+        .map(|p| Varied { at: p.x, delta: 0 })
+        .collect(alloc)
 }
 
-/// Of a simple glyph's points y, not moved, and the phantom points.
+/// y of points, not moved.
 fn still_ys(alloc: Global, points: &[RawPoint]) -> Result<Vec<Varied>, AllocError>
-    ensures exact { IfOk result (λ v. v.items ≡ (simple_points points.now).ys) }
+    ensures exact { IfOk result (λ v. v.items ≡ map still_y points.now) }
     ensures still { IfOk result (λ v. All IsStill v.items) }
-    ensures count { IfOk result (λ v. length v.items ≡ length points.now + 4) }
 {
-    let ys = points.iter().map(|p| still(p.y)).collect(alloc)?;
-    with_ends(ys)
+    points
+        .iter()
+        .map(|p| Varied { at: p.y, delta: 0 })
+        .collect(alloc)
 }
 
-/// For each component of a composite glyph a coordinate, not moved, and the phantom points.
+/// For each component a coordinate, not moved.
 fn still_parts(alloc: Global, records: &[Record]) -> Result<Vec<Varied>, AllocError>
-    ensures exact { IfOk result (λ v. v.items ≡ parts_still records.now) }
+    ensures exact { IfOk result (λ v. v.items ≡ map still_part records.now) }
     ensures still { IfOk result (λ v. All IsStill v.items) }
-    ensures count { IfOk result (λ v. length v.items ≡ length records.now + 4) }
 {
-    let parts = records.iter().map(|_| still(0)).collect(alloc)?;
-    with_ends(parts)
+    records
+        .iter()
+        .map(|_| Varied { at: 0, delta: 0 })
+        .collect(alloc)
 }
 
 impl GlyphVariation<'_, '_> {
@@ -91,8 +90,8 @@ impl GlyphVariation<'_, '_> {
         ensures exact { FontGives glyph_view result (simple_deltas self.now.gvar.now self.now.coordinates.now g points.now ends.now) }
         ensures count { IfOk result (λ d. d.points ≡ length points.now) }
     {
-        let mut xs = still_xs(alloc, points)?;
-        let mut ys = still_ys(alloc, points)?;
+        let mut xs = with_ends(still_xs(alloc, points)?)?;
+        let mut ys = with_ends(still_ys(alloc, points)?)?;
         self.gvar
             .vary(alloc, g, self.coordinates, &mut xs, &mut ys, ends)?;
         Ok(GlyphDeltas {
@@ -113,8 +112,8 @@ impl GlyphVariation<'_, '_> {
         ensures exact { FontGives glyph_view result (composite_deltas self.now.gvar.now self.now.coordinates.now g records.now) }
         ensures count { IfOk result (λ d. d.points ≡ length records.now) }
     {
-        let mut xs = still_parts(alloc, records)?;
-        let mut ys = still_parts(alloc, records)?;
+        let mut xs = with_ends(still_parts(alloc, records)?)?;
+        let mut ys = with_ends(still_parts(alloc, records)?)?;
         self.gvar
             .vary(alloc, g, self.coordinates, &mut xs, &mut ys, &[])?;
         Ok(GlyphDeltas {

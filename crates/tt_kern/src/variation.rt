@@ -171,10 +171,12 @@ impl<'a> PairVariation<'a> {
         ensures count { reads.new ≡ reads.old + if_some self.now.store (device_reads table.now at parent values) }
         ensures few { reads.new ≤ reads.old + 5 }
     {
-        if self.store.is_none() {
-            return advance;
+        match &self.store {
+            Some(_) => {
+                let indexes = indexes_in(table, at, parent, values, reads);
+                pair_value(&self.store, advance, indexes, &self.coordinates)
+            }
+            None => advance,
         }
-        let indexes = indexes_in(table, at, parent, values, reads);
-        pair_value(&self.store, advance, indexes, &self.coordinates)
     }
 }
