@@ -68,10 +68,7 @@ fn pair_variation<'a>(dir: &Dir<'a>, instance: &Option<FaceInstance<'a>>) -> Pai
 }
 
 /// The kerning of a font at an instance. No defect of its tables is an error.
-pub(crate) fn kerning_in<'a>(
-    dir: &Dir<'a>,
-    instance: &Option<FaceInstance<'a>>,
-) -> Kerning<'a>
+pub(crate) fn kerning_in<'a>(dir: &Dir<'a>, instance: &Option<FaceInstance<'a>>) -> Kerning<'a>
     ensures { result ≡ kerning_tables dir.now instance.now }
 {
     let mut kerning = Kerning::open(table_bytes(dir, *b"GPOS"), table_bytes(dir, *b"kern"));

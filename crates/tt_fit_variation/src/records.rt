@@ -24,23 +24,23 @@ fn moved_argument(v: i32, delta: i64) -> i64
 
 /// A record at an instance. Error: CoordRange, at the record.
 #[tactic(auto, unfolding(crate::specs::Records::moved_record))]
-fn moved_record(record: Record, x: Varied, y: Varied) -> Result<Record, Fault>
+fn moved_record(part: Record, x: Varied, y: Varied) -> Result<Record, Fault>
     requires x { IsWithin (2 ^ 46) x }
     requires y { IsWithin (2 ^ 46) y }
-    requires arguments { HasArguments record }
-    ensures exact { Gives (λ r. r) result (moved_record record x y) }
+    requires arguments { HasArguments part }
+    ensures exact { Gives (λ r. r) result (moved_record part x y) }
     ensures arguments { IfOk result HasArguments }
-    ensures glyph { IfOk result (λ r. r.glyph ≡ record.glyph) }
+    ensures glyph { IfOk result (λ r. r.glyph ≡ part.glyph) }
 {
-    if !record.has(ComponentFlags::ARGS_ARE_XY_VALUES) {
-        return Ok(record);
+    if !part.has(ComponentFlags::ARGS_ARE_XY_VALUES) {
+        return Ok(part);
     }
-    let arg1 = unit(record.at, moved_argument(record.arg1, x.delta))?;
-    let arg2 = unit(record.at, moved_argument(record.arg2, y.delta))?;
+    let arg1 = unit(part.at, moved_argument(part.arg1, x.delta))?;
+    let arg2 = unit(part.at, moved_argument(part.arg2, y.delta))?;
     Ok(Record {
         arg1: i32::from(arg1),
         arg2: i32::from(arg2),
-        ..record
+        ..part
     })
 }
 
