@@ -3,6 +3,7 @@ pub mod FaceRows
 pub mod Faces
 pub mod Files
 pub mod Instance
+pub mod InstanceRows
 pub mod Laws
 pub mod Names
 pub mod Programs
