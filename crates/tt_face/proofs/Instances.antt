@@ -1,11 +1,7 @@
 -- Faces at an instance: the default's, and those that have no defect.
-use Rattle.std.proofs.Common.{◌≡◌, refl, ap, ℕ, true, List, Option, Some, None, Result, Ok, Err, inl, inr, subst}
-use Rattle.std.specs.Prelude.{ℤ, IsOkAnd}
-use Rattle.tt_core.specs.Chains.{came-through}
-use Rattle.tt_core.specs.Directory.{HasNo}
+use Rattle.std.proofs.Common.{◌≡◌, refl, Result, Ok, Err}
 use Rattle.tt_core.specs.Faults.{Fault}
 use Rattle.tt_core.specs.Outcomes.{◌>>=◌}
-use Rattle.tt_axes.specs.Coordinates.{are_zero}
 use Rattle.tt_face.specs.declared.rules.Opening.{Opening}
 use Rattle.tt_face.specs.Faces.{Face}
 use Rattle.tt_face.specs.Files.{face_by, face_with}

@@ -1,6 +1,6 @@
 -- OpenType, "fvar: Font Variations Table" and "OpenType Font Variations Overview": the instance that a job asks for, and a
 -- face at it. Where all coordinates are 0 the instance is the font's default, and no other table is looked at.
-use Rattle.std.specs.Prelude.{◌≡◌, refl, ℕ, min, Bool, true, false, bytes_eq, if◌then◌else◌, List, [], ◌∷◌, length, codes, Option, Some, None, option_map, unwrap_or, Result, Ok, Err, IsOkAnd, ◌⊎◌, ℤ, pos}
+use Rattle.std.specs.Prelude.{◌≡◌, ℕ, min, Bool, true, false, bytes_eq, if◌then◌else◌, List, length, codes, Option, Some, None, unwrap_or, Result, Ok, IsOkAnd, ◌⊎◌, ℤ}
 use Rattle.tt_core.specs.Directory.{Directory, IsDefectIn, table_of}
 use Rattle.tt_core.specs.Faults.{Fault}
 use Rattle.tt_core.specs.Outcomes.{◌>>=◌}

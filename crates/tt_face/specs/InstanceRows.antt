@@ -27,7 +27,7 @@ use Rattle.tt_variation_store.specs.Deltas.{fine_delta}
 use Rattle.tt_variation_store.specs.Numbers.{number}
 use Rattle.tt_face.specs.Faces.{Face, FaceInstance}
 use Rattle.tt_face.specs.Files.{face_at, face_by}
-use Rattle.tt_face.specs.Instance.{Asked, Named, asked_coordinates, by_name, by_number, face_at_coordinates, face_at_instance}
+use Rattle.tt_face.specs.Instance.{Named, asked_coordinates, by_name, by_number, face_at_coordinates, face_at_instance}
 use Rattle.tt_face.specs.Rules.{plain_opening, ruled, table_bytes}
 
 -- coordinates, ascent, descent, and the advances of glyphs 1 and 2

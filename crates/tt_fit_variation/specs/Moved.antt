@@ -1,9 +1,8 @@
 -- OpenType, "gvar": coordinates at an instance, in whole font units and in 26.6 pixels. A coordinate in font units stays an
 -- int16 (profile).
-use Rattle.std.specs.Prelude.{◌≡◌, refl, ℕ, ◌++◌, Bool, true, false, not, ◌&&◌, if◌then◌else◌, ℤ, pos, negsuc, ◌+ℤ◌, int_lt, List, [], ◌∷◌, map, Result, Ok, Err}
+use Rattle.std.specs.Prelude.{◌≡◌, refl, ℕ, Bool, true, false, not, ◌&&◌, if◌then◌else◌, ℤ, pos, negsuc, int_lt, List, [], ◌∷◌, map, Result, Ok, Err}
 use Rattle.tt_core.specs.Faults.{Fault}
 use Rattle.tt_core.specs.Outcomes.{◌>>=◌, each}
-use Rattle.tt_axes.specs.Rounding.{whole_units}
 use Rattle.tt_deltas.specs.declared.varied.Varied.{Varied}
 use Rattle.tt_deltas.specs.Units.{moved_sixty_fourths, moved_units}
 use Rattle.tt_fit_outline.specs.declared.rules.Scaling.TheVariants as scaling
