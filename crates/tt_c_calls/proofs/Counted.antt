@@ -71,7 +71,7 @@ face_reads_at d r face is =
     let by_metrics = came-through (metrics_of d) _ face is in
     let by_table = came-through (needed_table d cmap_tag) _ face by_metrics.rest in
     let by_map = came-through (map_by r by_table.value (glyphs_of by_metrics.value)) _ face by_table.rest in
-    let made : Face = record { directory = d; metrics = by_metrics.value; cmap = by_map.value } in
+    let made : Face = record { directory = d; metrics = by_metrics.value; cmap = by_map.value; instance = None } in
     let same : made ≡ face = cc in
     rw (← same) (map_reads r by_table.value (glyphs_of by_metrics.value) by_map.value by_map.first)
 

@@ -1,5 +1,5 @@
 -- The strike of a job is that of the font's tables.
-use Rattle.std.proofs.Common.{◌≡◌, ◌≤◌, List, ℕ, Bool, true, false, Result, Ok, Err, IfSome, length, nat_lt, if◌then◌else◌, ap, arith, refl}
+use Rattle.std.proofs.Common.{◌≡◌, ◌≤◌, List, ℕ, Bool, true, false, None, Result, Ok, Err, IfSome, length, nat_lt, if◌then◌else◌, ap, arith, refl}
 use Rattle.std.proofs.lemmas.Bool.Decides.{nat_tests}
 use Rattle.tt_cmap.specs.Maps.{map_by}
 use Rattle.tt_core.specs.Chains.{came-through}
@@ -37,7 +37,7 @@ directory_at d r face is =
     let by_metrics = came-through (metrics_of d) _ face is in
     let by_table = came-through (needed_table d cmap_tag) _ face by_metrics.rest in
     let by_map = came-through (map_by r by_table.value (glyphs_of by_metrics.value)) _ face by_table.rest in
-    let made : Face = record { directory = d; metrics = by_metrics.value; cmap = by_map.value } in
+    let made : Face = record { directory = d; metrics = by_metrics.value; cmap = by_map.value; instance = None } in
     let same : made ≡ face = cc in
     ap (λ (f : Face). f.directory) same
 

@@ -132,6 +132,16 @@ impl<'a> Gvar<'a> {
         Ok(Gvar { table, axes })
     }
 
+    /// A copy. The bytes are not copied.
+    pub fn copy(&self) -> Gvar<'a>
+        ensures { result ≡ self.now }
+    {
+        Gvar {
+            table: self.table,
+            axes: self.axes,
+        }
+    }
+
     /// The number of axes.
     pub(crate) fn axes(&self) -> usize
         ensures exact { result ≡ self.now.axes }

@@ -1,3 +1,5 @@
+mod Instances
 mod Plain
 mod Readings
+mod Told
 pub mod Whole

@@ -32,6 +32,7 @@ plain d m was =
       hmtx = by_hmtx.value;
       heights = Exact;
       kerning = None;
+      advances = None;
     } in
     let is : whole ≡ m = let rest = by_hmtx.rest in cc in
     rw (← is) refl
@@ -42,10 +43,10 @@ tables-keep d r face was =
     let by_metrics = came-through (metrics_of d) _ face was in
     let by_table = came-through (needed_table d cmap_tag) _ face by_metrics.rest in
     let by_map = came-through (map_by r by_table.value (glyphs_of by_metrics.value)) _ face by_table.rest in
-    let opened : Face = record { directory = d; metrics = by_metrics.value; cmap = by_map.value } in
+    let opened : Face = record { directory = d; metrics = by_metrics.value; cmap = by_map.value; instance = None } in
     let is : opened ≡ face = let rest = by_map.rest in cc in
     let same = plain d by_metrics.value by_metrics.first in
-    rw (← is) (ap (λ (m : Metrics). record { directory = d; metrics = m; cmap = by_map.value }) same)
+    rw (← is) (ap (λ (m : Metrics). record { directory = d; metrics = m; cmap = by_map.value; instance = None }) same)
 
 given-keep : (file : List ℕ) (r : Reading) (face : Face) → face_by file r ≡ Ok face → ruled plain_rules face ≡ face
 unfolding face_by

@@ -56,7 +56,7 @@ read-face-whole file r face was =
 
 -- the strict reading, step by step: a map that is wrapped at once, or with the face
 abbrev face-of : Directory → Metrics → CharacterMap → Face
-face-of d m k = record { directory = d; metrics = m; cmap = k }
+face-of d m k = record { directory = d; metrics = m; cmap = k; instance = None }
 
 maps-same : (c : Result Cmap Fault) (d : Directory) (m : Metrics)
     → ◌≡◌ {A = Result Face Fault} ((c >>= λ k. Ok (strict k)) >>= λ k. Ok (face-of d m k)) (c >>= λ k. Ok (face-of d m (strict k)))
@@ -122,12 +122,12 @@ hmtx-same d e n same =
 
 abbrev by-hhea : Directory → Head → Maxp → Hhea → Result Metrics Fault
 by-hhea d head maxp hhea =
-    hmtx_of d hhea.long_metrics >>= λ hmtx. Ok (record { head = head; maxp = maxp; hhea = hhea; hmtx = hmtx; heights = Exact; kerning = None })
+    hmtx_of d hhea.long_metrics >>= λ hmtx. Ok (record { head = head; maxp = maxp; hhea = hhea; hmtx = hmtx; heights = Exact; kerning = None; advances = None })
 
 hhea-then : (r : Result Hhea Fault) (d e : Directory) (head : Head) (maxp : Maxp) → SameTables d e
     → (r >>= by-hhea d head maxp) ≡ (r >>= by-hhea e head maxp)
 hhea-then (Ok hhea) d e head maxp same =
-    ap (λ (t : Result (List ℕ) Fault). t >>= λ hmtx. Ok (record { head = head; maxp = maxp; hhea = hhea; hmtx = hmtx; heights = Exact; kerning = None }))
+    ap (λ (t : Result (List ℕ) Fault). t >>= λ hmtx. Ok (record { head = head; maxp = maxp; hhea = hhea; hmtx = hmtx; heights = Exact; kerning = None; advances = None }))
     (hmtx-same d e hhea.long_metrics same)
 hhea-then (Err f) d e head maxp same = refl
 
@@ -159,7 +159,7 @@ abbrev by-wide-table : Directory → ℕ → Metrics → List ℕ → Result Fac
 by-wide-table d n m table = map_by (reading.Wide n) table (glyphs_of m) >>= λ k. Ok (face-of d m k)
 
 abbrev moved : Directory → Result Face Fault → Result Face Fault
-moved e f = f >>= λ face. Ok (record { directory = e; metrics = face.metrics; cmap = face.cmap })
+moved e f = f >>= λ face. Ok (record { directory = e; metrics = face.metrics; cmap = face.cmap; instance = face.instance })
 
 map-moves : (c : Result CharacterMap Fault) (d e : Directory) (m : Metrics)
     → ◌≡◌ {A = Result Face Fault} (c >>= λ k. Ok (face-of e m k)) (moved e (c >>= λ k. Ok (face-of d m k)))
@@ -240,5 +240,6 @@ wide-faces-extend file face was =
           by_table.first more.given;
       directory = refl;
       metrics = refl;
+      instance = refl;
       same = more.same;
     })

@@ -1,5 +1,5 @@
 -- Tables that the definitions read have no defect.
-use Rattle.std.proofs.Common.{◌≡◌, ℕ, List, Result, Ok, Err, inl, inr, subst, sym}
+use Rattle.std.proofs.Common.{◌≡◌, ℕ, List, None, Result, Ok, Err, inl, inr, subst, sym}
 use Rattle.std.specs.Prelude.{OnOk}
 use Rattle.tt_cmap.specs.Defects.{IsBadCmap}
 use Rattle.tt_cmap.specs.Lookup.{cmap_of}
@@ -27,7 +27,7 @@ face-directory file face was =
     let by_metrics = came-through (metrics_of by_directory.value) _ face by_directory.rest in
     let by_table = came-through (needed_table by_directory.value cmap_tag) _ face by_metrics.rest in
     let by_lookup = came-through (cmap_of by_table.value (glyphs_of by_metrics.value)) _ face by_table.rest in
-    let same : record { directory = by_directory.value; metrics = by_metrics.value; cmap = strict by_lookup.value } ≡ face =
+    let same : record { directory = by_directory.value; metrics = by_metrics.value; cmap = strict by_lookup.value; instance = None } ≡ face =
     let done = by_lookup.rest in cc in
     rw (← same) (directories.directory-kept (file_directory file) by_directory.value by_directory.first)
 

@@ -1,22 +1,30 @@
 -- A face, and the tables of its glyphs and programs, in the order of reading (profile). Apple TrueType Reference Manual,
 -- "The 'cvt ' table", "The 'fpgm' table", "The 'prep' table"; OpenType, "cmap", "loca", "glyf". A font may lack each of
 -- the tables of the programs.
-use Rattle.std.specs.Prelude.{◌≡◌, refl, ℕ, List, [], ◌∷◌, take, codes, Option, Some, None, Result, Ok, Err}
+use Rattle.std.specs.Prelude.{◌≡◌, refl, ℕ, ℤ, List, [], ◌∷◌, take, codes, Option, Some, None, Result, Ok, Err}
 use Rattle.tt_cmap.specs.Maps.{CharacterMap}
 use Rattle.tt_core.specs.declared.fault.Why.TheVariants as why
 use Rattle.tt_core.specs.Directory.{Directory, file_directory, table_of, needed_table}
 use Rattle.tt_core.specs.Faults.{Fault, file_fault}
 use Rattle.tt_core.specs.Outcomes.{◌>>=◌}
+use Rattle.tt_deltas.specs.Gvar.{Gvar}
 use Rattle.tt_glyf.specs.Bytes.{glyf_tag}
 use Rattle.tt_glyf.specs.Loca.{Glyf, loca_tag, loca_of, with_glyf}
 use Rattle.tt_metrics.specs.Metrics.{Metrics}
 use Rattle.tt_face.specs.Programs.{ProgramTables}
 
--- the directory, the metrics and the character map of a font
+-- an instance that is not the font's default: its coordinates, the variations of glyphs, and the bytes of cvar
+pub record FaceInstance : Type 0 where
+  pub coordinates : List ℤ
+  pub gvar : Gvar
+  pub cvar : List ℕ
+
+-- the directory, the metrics and the character map of a font, and its instance if it is not the default
 pub record Face : Type 0 where
   pub directory : Directory
   pub metrics : Metrics
   pub cmap : CharacterMap
+  pub instance : Option FaceInstance
 
 -- 'cmap'
 abbrev pub cmap_tag : List ℕ

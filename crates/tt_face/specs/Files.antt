@@ -1,7 +1,7 @@
 -- The face of a font file, its defects, and the lemmas about both. With the strict reading a file has one font; the wide
 -- reading says which face of the file is meant. Apple TrueType Reference Manual, "The Font Directory"; OpenType, "Font
 -- Tables", "TrueType Collections".
-use Rattle.std.specs.Prelude.{◌≡◌, refl, ℕ, false, List, [], ◌∷◌, Result, Ok, Err, IsOkAnd, ◌⊎◌}
+use Rattle.std.specs.Prelude.{◌≡◌, refl, ℕ, false, List, [], ◌∷◌, None, Result, Ok, Err, IsOkAnd, ◌⊎◌}
 use Rattle.tt_cmap.specs.Lookup.{cmap_of}
 use Rattle.tt_cmap.specs.Maps.{strict, map_by, glyph_by, IsBadMap}
 use Rattle.tt_core.specs.Collections.{directory_by, IsDirectoryDefectBy}
@@ -24,7 +24,7 @@ face_of file = do
   metrics ← metrics_of directory
   table ← needed_table directory cmap_tag
   cmap ← cmap_of table (glyphs_of metrics)
-  Ok (record { directory = directory; metrics = metrics; cmap = strict cmap })
+  Ok (record { directory = directory; metrics = metrics; cmap = strict cmap; instance = None })
 
 -- the face that a directory and a reading give
 unfoldable pub face_at : Directory → Reading → Result Face Fault
@@ -32,7 +32,7 @@ face_at directory r = do
   metrics ← metrics_of directory
   table ← needed_table directory cmap_tag
   cmap ← map_by r table (glyphs_of metrics)
-  Ok (record { directory = directory; metrics = metrics; cmap = cmap })
+  Ok (record { directory = directory; metrics = metrics; cmap = cmap; instance = None })
 
 -- the face of a file by a reading, or its first fault
 unfoldable pub face_by : List ℕ → Reading → Result Face Fault
@@ -70,7 +70,7 @@ SameTables d e = (tag : List ℕ) → table_of d tag ≡ table_of e tag
 -- The number of a face says only where the directory is
 abbrev pub FacesAreTheirFonts : Type 0
 FacesAreTheirFonts = (d e : Directory) (n k : ℕ) → SameTables d e → face_at e (reading.Wide k)
-    ≡ (face_at d (reading.Wide n) >>= λ f. Ok (record { directory = e; metrics = f.metrics; cmap = f.cmap }))
+    ≡ (face_at d (reading.Wide n) >>= λ f. Ok (record { directory = e; metrics = f.metrics; cmap = f.cmap; instance = f.instance }))
 
 -- the wide reading extends a face of the strict reading: the same directory and metrics, and the same glyph for each
 -- character
@@ -79,6 +79,7 @@ pub record ExtendsFace (file : List ℕ) (face : Face) : Type 0 where
   pub given : face_by file (reading.Wide 0) ≡ Ok wide
   pub directory : wide.directory ≡ face.directory
   pub metrics : wide.metrics ≡ face.metrics
+  pub instance : wide.instance ≡ face.instance
   pub same : (c : ℕ) → glyph_by wide.cmap c ≡ glyph_by face.cmap c
 
 abbrev pub WideFacesExtend : Type 0

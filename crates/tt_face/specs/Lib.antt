@@ -2,8 +2,11 @@ pub mod Defects
 pub mod FaceRows
 pub mod Faces
 pub mod Files
+pub mod Instance
+pub mod InstanceRows
 pub mod Laws
 pub mod Names
 pub mod Programs
 pub mod Rules
 pub mod Style
+pub mod Views

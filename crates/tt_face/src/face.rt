@@ -1,6 +1,6 @@
 //! The tables of a face: those needed for every text, the glyphs' data, and the programs.
 
-ghost use Rattle.std.specs.Prelude.{◌≡◌, ◌≤◌, length, IsTrue, IfOk, IfErr, OnOk};
+ghost use Rattle.std.specs.Prelude.{◌≡◌, ◌≤◌, length, option_map, IsTrue, IfOk, IfErr, OnOk};
 ghost use Rattle.tt_core.specs.Directory.{file_directory, HasNo, PassesEnd};
 ghost use Rattle.tt_core.specs.Limits.{font_limit};
 ghost use Rattle.tt_core.specs.Outcomes.{Gives};
@@ -13,24 +13,32 @@ ghost use Rattle.tt_face.specs.Programs.{program_tables};
 ghost use Rattle.tt_face.specs.Rules.{ruled};
 ghost use Rattle.tt_face.specs.Style.{style_of};
 ghost use Rattle.tt_face.specs.Files.{face_of, face_by, face_with, IsFaceDefect, IsFaceDefectBy};
+ghost use Rattle.tt_face.specs.Instance.{face_at_asked, face_at_coordinates, face_at_instance, IsDefectAtInstance, IsVariationDefect, LacksInstance};
+ghost use Rattle.tt_face.specs.Views.{asked_view};
 
+use crate::instance::{AskedInstance, FaceInstance, asked_coordinates};
 use crate::names::{FAMILY_NAME, FULL_NAME, string_of, told_text};
 use crate::programs::Programs;
-use crate::rules::{LineRules, Opening, kerning_in};
+use crate::rules::{LineRules, Opening, kerning_in, table_bytes};
 use crate::style::style_of;
 use std::alloc::{AllocError, Global};
 use std::marker::Model;
+use tt_axes::InstanceCoordinates;
 use tt_cmap::{CharacterMap, Cmap};
 use tt_core::{Dir, Fault, Reading};
+use tt_deltas::Gvar;
 use tt_glyf::{Glyf, Loca};
 use tt_metrics::Metrics;
+use tt_variation_store::{Hvar, Mvar};
 
-/// The directory, the metrics and the character map of a font. They borrow the font's bytes.
+/// The directory, the metrics and the character map of a font, and its instance if it is not the default. They borrow the
+/// font's bytes.
 #[derive(Drop)]
 pub struct Face<'a> {
     dir: Dir<'a>,
     metrics: Metrics<'a>,
     cmap: CharacterMap<'a>,
+    instance: Option<FaceInstance<'a>>,
 }
 
 impl<'a> Model for Face<'a> {
@@ -41,7 +49,7 @@ impl<'a> Model for Face<'a> {
 
     ghost Value = { faces.Face };
 
-    ghost view = { λ f. record { directory = f.dir; metrics = f.metrics; cmap = f.cmap } };
+    ghost view = { λ f. record { directory = f.dir; metrics = f.metrics; cmap = f.cmap; instance = f.instance } };
 
     ghost invariant = { λ f. glyph_count f.cmap ≡ glyphs_of f.metrics };
 }
@@ -64,6 +72,7 @@ impl<'a> Face<'a> {
             dir,
             metrics,
             cmap: CharacterMap::strict(cmap),
+            instance: None,
         })
     }
 
@@ -80,7 +89,12 @@ impl<'a> Face<'a> {
         let metrics = Metrics::open(&dir)?;
         let table = dir.needed(*b"cmap")?;
         let cmap = CharacterMap::open(table, metrics.glyphs(), reading)?;
-        Ok(Face { dir, metrics, cmap })
+        Ok(Face {
+            dir,
+            metrics,
+            cmap,
+            instance: None,
+        })
     }
 
     /// Opens the tables of a face of a file of at most 67,108,864 bytes. Errors: as `read`.
@@ -96,6 +110,69 @@ impl<'a> Face<'a> {
         Ok(face)
     }
 
+    /// Opens the tables of a face of a file at an instance, if one is asked for. Errors: as `read`; then those of fvar,
+    /// NoInstance and NoAxis, and at an instance that is not the default those of gvar's header.
+    #[tactic(auto, unfolding(crate::specs::Instance::face_at_instance))]
+    pub fn read_at(
+        file: &'a [u8],
+        opening: Opening,
+        instance: Option<AskedInstance>,
+    ) -> Result<Face<'a>, Fault>
+        requires { length file.now ≤ font_limit }
+        ensures exact { Gives (λ f. f) result (face_at_instance file.now opening (option_map asked_view instance.entry)) }
+        ensures sound { OnOk result (HasNo (IsDefectAtInstance file.now opening (option_map asked_view instance.entry))) }
+        ensures fault { IfErr result (IsDefectAtInstance file.now opening (option_map asked_view instance.entry)) }
+    {
+        let mut face = Face::read(file, opening.reading)?;
+        face.set_instance(instance)?;
+        face.set_rules(opening.rules);
+        Ok(face)
+    }
+
+    /// Moves the face of the font's default to an instance, if one is asked for. Of an error nothing is known but the
+    /// fault.
+    fn set_instance(&mut self, asked: Option<AskedInstance>) -> Result<(), Fault>
+        ensures exact { Gives (λ u. self.new) result (face_at_asked self.old (option_map asked_view asked.entry)) }
+        ensures sound { OnOk result (HasNo (LacksInstance self.old (option_map asked_view asked.entry))) }
+        ensures fault { IfErr result (LacksInstance self.old (option_map asked_view asked.entry)) }
+    {
+        match asked {
+            Some(asked) => {
+                let coordinates = asked_coordinates(&self.dir, asked)?;
+                self.set_coordinates(&coordinates)?;
+                Ok(())
+            }
+            None => Ok(()),
+        }
+    }
+
+    /// Moves the face of the font's default to coordinates. Where all are 0, the face stays.
+    #[tactic(auto, unfolding(crate::specs::Instance::face_at_coordinates))]
+    fn set_coordinates(&mut self, coordinates: &InstanceCoordinates) -> Result<(), Fault>
+        ensures exact { Gives (λ u. self.new) result (face_at_coordinates self.old coordinates.now) }
+        ensures sound { OnOk result (HasNo (IsVariationDefect self.old.directory coordinates.now)) }
+        ensures fault { IfErr result (IsVariationDefect self.old.directory coordinates.now) }
+    {
+        if coordinates.are_zero() {
+            return Ok(());
+        }
+        let axes = coordinates.count();
+        let gvar = Gvar::open(&self.dir, axes)?;
+        let hvar = Hvar::open(table_bytes(&self.dir, *b"HVAR"), axes);
+        let mvar = Mvar::open(table_bytes(&self.dir, *b"MVAR"), axes);
+        let cvar = table_bytes(&self.dir, *b"cvar");
+        self.metrics.set_instance(&mvar, hvar, coordinates);
+        self.instance = Some(FaceInstance::new(coordinates, gvar, cvar));
+        Ok(())
+    }
+
+    /// The face's instance, if it is not the default.
+    pub fn instance(&self) -> &Option<FaceInstance<'a>>
+        ensures { result.now ≡ self.now.instance }
+    {
+        &self.instance
+    }
+
     /// Lays lines out by these rules from now on. A face that is opened has exact heights, and no pair is kerned. The
     /// tables GPOS and kern are read with kerning alone, and no defect of theirs is an error.
     #[tactic(auto, unfolding(crate::specs::Rules::ruled))]
@@ -103,7 +180,7 @@ impl<'a> Face<'a> {
         ensures { self.new ≡ ruled rules self.old }
     {
         let kerning = if rules.kerned {
-            Some(kerning_in(&self.dir))
+            Some(kerning_in(&self.dir, &self.instance))
         } else {
             None
         };

@@ -1,6 +1,7 @@
 //! Lemmas about the definitions, for all files. No code runs.
 
-ghost use Rattle.tt_face.specs.Laws.{GlyphTablesAreWhole, ProgramsAreWhole};
+ghost use Rattle.tt_face.specs.Laws.{DefaultsAreFaces, GlyphTablesAreWhole, ProgramsAreWhole};
+ghost use Rattle.tt_face.specs.Instance.{ZeroKeepsFaces};
 ghost use Rattle.tt_face.specs.Files.{FacesAreWhole, ReadFacesAreWhole, StrictIsTheFace, FacesAreTheirFonts, OpenedFacesAreWhole, PlainRulesKeepFaces, RulesKeepFaults, WideFacesExtend};
 
 /// Lemma: if the definitions give a face, its glyph tables or its programs, then these have no defect.
@@ -25,4 +26,10 @@ pub fn rules_keep_faces()
     ensures plain { PlainRulesKeepFaces }
     ensures faults { RulesKeepFaults }
     ensures whole { OpenedFacesAreWhole }
+{}
+
+/// Lemma: a face without an instance is that of the font's default, and so is one whose coordinates are all 0.
+pub fn defaults_are_faces()
+    ensures none { DefaultsAreFaces }
+    ensures zero { ZeroKeepsFaces }
 {}

@@ -2,6 +2,7 @@
 #![tactic(auto)]
 
 mod face;
+mod instance;
 pub mod laws;
 mod names;
 mod programs;
@@ -9,6 +10,7 @@ mod rules;
 mod style;
 
 pub use face::Face;
+pub use instance::{AskedInstance, FaceInstance, NamedBy};
 pub use programs::Programs;
 pub use rules::{LineRules, Opening};
 pub use tt_metrics::Heights;

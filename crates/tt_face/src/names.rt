@@ -1,6 +1,6 @@
 //! The names of a face. OpenType, "name: Naming Table".
 
-ghost use Rattle.std.specs.Prelude.{◌≡◌, ◌<◌, ◌≤◌, length, is_some, IfOk, IfSome};
+ghost use Rattle.std.specs.Prelude.{◌≡◌, ◌<◌, ◌≤◌, length, is_some, bytes_eq, IfOk, IfSome};
 ghost use Rattle.tt_core.specs.Directory.{table_of};
 ghost use Rattle.tt_core.specs.Limits.{font_limit};
 ghost use Rattle.tt_face.specs.Names.{name_tag, string_of, name_count, has_records, is_name, first_name, chosen_name, string_at, chosen_string, told_character, told_text};
@@ -143,6 +143,23 @@ pub(crate) fn told_text(alloc: Global, string: &[u8]) -> Result<Vec<u8>, AllocEr
         text.push(told_character(u16_at(string, 2 * k).unwrap()))?;
     }
     Ok(text)
+}
+
+/// Whether a text is the first characters of a string as ASCII.
+pub(crate) fn is_told(string: &[u8], text: &[u8]) -> bool
+    requires { length string.now ≤ font_limit }
+    ensures { result ≡ bytes_eq (told_text string.now) text.now }
+{
+    let count = TOLD.min(string.len() / 2);
+    if text.len() != count {
+        return false;
+    }
+    for k in 0..count {
+        if told_character(u16_at(string, 2 * k).unwrap()) != text[k] {
+            return false;
+        }
+    }
+    true
 }
 
 /// The string of a face's name with this number, empty if its table has a defect.

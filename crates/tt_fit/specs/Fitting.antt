@@ -225,6 +225,7 @@ its_metrics = record {
   hmtx = 1 ∷ 0 ∷ 0 ∷ 0 ∷ 0 ∷ 64 ∷ 0 ∷ 0 ∷ [];
   heights = Exact;
   kerning = None;
+  advances = None;
 }
 
 -- glyph 0 is empty, glyph 1 a square of four points, (64,0), (64,128), (192,128), (192,0), and glyph 2 is after it

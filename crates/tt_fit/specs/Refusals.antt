@@ -42,6 +42,7 @@ its_metrics = record {
   hmtx = 1 ∷ 0 ∷ 0 ∷ 64 ∷ 0 ∷ 64 ∷ 0 ∷ 64 ∷ 0 ∷ 64 ∷ [];
   heights = Exact;
   kerning = None;
+  advances = None;
 }
 
 abbrev its_fitter : Fallback → Fitter

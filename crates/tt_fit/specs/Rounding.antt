@@ -40,6 +40,7 @@ its_metrics high low = record {
   hmtx = high ∷ low ∷ 0 ∷ 0 ∷ 0 ∷ 72 ∷ 0 ∷ 68 ∷ [];
   heights = Exact;
   kerning = None;
+  advances = None;
 }
 
 abbrev its_square : List ℕ

@@ -144,8 +144,8 @@ pub(crate) fn glyph_zone(room: Vec<Point>, glyph: &ReadyGlyph) -> Result<Vec<Poi
     let places = phantom_places(glyph.units);
     let was = &glyph.outline.phantom;
     let grid = &glyph.grid;
-    let ascent = (0, i32::from(places.ascent));
-    let descent = (0, i32::from(places.descent));
+    let ascent = (0, places.ascent);
+    let descent = (0, places.descent);
     zone.push(phantom_point((places.left, 0), was[0], grid[0]))?;
     zone.push(phantom_point((places.right, 0), was[1], grid[1]))?;
     zone.push(phantom_point(ascent, was[2], grid[2]))?;

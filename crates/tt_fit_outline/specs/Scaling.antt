@@ -76,9 +76,12 @@ blank at phantom = if are_positions phantom then Ok (record { points = []; ends 
     (coordinate_fault at)
 
 -- an outline with these points; each contour's last point is given
+abbrev pub outline_in_place : List (ℤ × ℤ × Bool) → List ℕ → Outline → Outline
+outline_in_place points ends o = record o { points = points; ends = map (λ e. e + 1) ends; scan = None }
+
+-- the same with points that are scaled
 unfoldable pub scaled_outline : FontSize → ℕ → List RawPoint → List ℕ → Outline → Result Outline Fault
-scaled_outline z at points ends o = each (scaled_point z at) points >>= λ ps. Ok
-    (record o { points = ps; ends = map (λ e. e + 1) ends; scan = None })
+scaled_outline z at points ends o = each (scaled_point z at) points >>= λ ps. Ok (outline_in_place ps ends o)
 
 -- worked values: 256 units in an em, at 16 pixels
 its_size : FontSize

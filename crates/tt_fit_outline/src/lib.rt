@@ -18,7 +18,8 @@ pub use joining::placed;
 pub use outline::Outline;
 pub use rules::{OutlineRules, Scaling};
 pub use scaling::{
-    Phantom, blank, coordinate, glyf_fault, phantom_points, phantom_units, scaled_outline,
+    Phantom, blank, coordinate, glyf_fault, outline_in_place, phantom_points, phantom_units,
+    scaled_outline, scaled_phantom,
 };
 pub use size::FontSize;
 pub use steps::pixels_of;

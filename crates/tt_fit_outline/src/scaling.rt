@@ -7,7 +7,7 @@ ghost use Rattle.tt_core.specs.Outcomes.{each, FontGives, Gives};
 ghost use Rattle.tt_metrics.specs.Metrics.{glyphs_of};
 ghost use Rattle.tt_glyf.specs.Meaning.{AreEnds as EndContours};
 ghost use Rattle.tt_fit_outline.specs.Outline.{Outline, IsCoordinate, IsPoint};
-ghost use Rattle.tt_fit_outline.specs.Scaling.{is_coordinate, glyf_fault, coordinate_fault, settled, scaled_position, scaled_by_scale, scaled_point, phantom_points, phantom_units, blank, scaled_outline};
+ghost use Rattle.tt_fit_outline.specs.Scaling.{is_coordinate, glyf_fault, coordinate_fault, settled, scaled_position, scaled_by_scale, scaled_point, scaled_phantom, phantom_points, phantom_units, blank, outline_in_place, scaled_outline};
 ghost use Rattle.tt_fit_outline.specs.Views.{size_view, landing_view, outline_of, phantom_view, phantom_units_view};
 
 use crate::outline::Outline;
@@ -127,10 +127,10 @@ fn contour_ends(alloc: Global, last_points: &[u16]) -> Result<Vec<u32>, AllocErr
 /// The phantom points' coordinates that are not 0, in 26.6 pixels.
 #[derive(Clone, Copy)]
 pub struct Phantom {
-    left: i64,
-    right: i64,
-    ascent: i64,
-    descent: i64,
+    pub left: i64,
+    pub right: i64,
+    pub ascent: i64,
+    pub descent: i64,
 }
 
 /// The phantom points of glyph `g`, in font units.
@@ -142,8 +142,20 @@ pub fn phantom_units(metrics: &Metrics, x_min: i16, g: u16) -> PhantomUnits
     PhantomUnits {
         left,
         right: left + i32::from(metrics.advance(g)),
-        ascent: metrics.ascent(),
-        descent: metrics.descent(),
+        ascent: i32::from(metrics.ascent()),
+        descent: i32::from(metrics.descent()),
+    }
+}
+
+/// Phantom points scaled.
+pub fn scaled_phantom(size: FontSize, units: PhantomUnits) -> Phantom
+    ensures { phantom_view result ≡ scaled_phantom (size_view size) (phantom_units_view units) }
+{
+    Phantom {
+        left: size.scale.scaled(units.left),
+        right: size.scale.scaled(units.right),
+        ascent: size.scale.scaled(units.ascent),
+        descent: size.scale.scaled(units.descent),
     }
 }
 
@@ -152,13 +164,7 @@ pub fn phantom_points(size: FontSize, metrics: &Metrics, x_min: i16, g: u16) -> 
     requires { g < glyphs_of metrics.now }
     ensures { phantom_view result ≡ phantom_points (size_view size) metrics.now x_min g }
 {
-    let units = phantom_units(metrics, x_min, g);
-    Phantom {
-        left: size.scale.scaled(units.left),
-        right: size.scale.scaled(units.right),
-        ascent: size.scale.scaled(i32::from(units.ascent)),
-        descent: size.scale.scaled(i32::from(units.descent)),
-    }
+    scaled_phantom(size, phantom_units(metrics, x_min, g))
 }
 
 /// An outline without points. Error: CoordRange, at this offset in glyf.
@@ -194,6 +200,29 @@ pub fn scaled_outline(
     ensures exact { FontGives outline_of result (scaled_outline (size_view size) at points.now last_points.now (outline_of start)) }
 {
     let points = scaled_points(alloc, size, at, points)?;
+    let ends = contour_ends(alloc, last_points)?;
+    let phantom = start.phantom;
+    Ok(Outline {
+        points,
+        ends,
+        phantom,
+        unfitted: None,
+        scan: None,
+    })
+}
+
+/// The points of a simple glyph in their places. Error: Memory.
+pub fn outline_in_place(
+    alloc: Global,
+    points: Vec<(i32, i32, bool)>,
+    last_points: &[u16],
+    start: Outline,
+) -> Result<Outline, AllocError>
+    requires few { length points.items ≤ point_limit }
+    requires coordinates { All IsPoint points.items }
+    requires ends { EndContours (length points.items) last_points.now }
+    ensures exact { IfOk result (λ o. outline_of o ≡ outline_in_place points.items last_points.now (outline_of start)) }
+{
     let ends = contour_ends(alloc, last_points)?;
     let phantom = start.phantom;
     Ok(Outline {

@@ -10,10 +10,12 @@ use tt_glyf::RawPoint;
 pub struct PhantomUnits {
     pub left: i32,
     pub right: i32,
-    pub ascent: i16,
-    pub descent: i16,
+    pub ascent: i32,
+    pub descent: i32,
     pub ghost left_is_near: { unsigned_abs left ≤ 2 ^ 17 },
     pub ghost right_is_near: { unsigned_abs right ≤ 2 ^ 17 },
+    pub ghost ascent_is_near: { unsigned_abs ascent ≤ 2 ^ 17 },
+    pub ghost descent_is_near: { unsigned_abs descent ≤ 2 ^ 17 },
 }
 
 /// A glyph's points as the table has them, and its phantom points.

@@ -11,6 +11,7 @@ use Rattle.tt_kern.specs.Kerning.{Tables, lookup_value, lookups_sum, kerning}
 use Rattle.tt_kern.specs.Listed.{with_pair, pairs_in, pairs_of_lookups, pairs_by, pairs_of, with_value, sum_from}
 use Rattle.tt_kern.specs.Pair.{pair_value}
 use Rattle.tt_kern.specs.Pairs.{lookup_place, subtable_count, pair_place, with_place, places_in, subtables_in, lookups_of, first_of_all, subtables_of}
+use Rattle.tt_kern.specs.Variation.{PairVariation}
 
 abbrev in_lookup : ℕ → ℕ → PairSubtable
 in_lookup i at = record { lookup = i; at = at }
@@ -58,10 +59,10 @@ not-below : (a b : ℕ) → b ≤ a → nat_lt a b ≡ false
 not-below a b above = grind (arith, nat_tests, above)
 
 -- the other subtables of a lookup that has ended are passed over
-passed-over : (b : List ℕ) (g h i : ℕ) (l : List ℕ) (ps : List PairSubtable)
-    → sum_from b g h (i + 1) (map (in_lookup i) l ++ ps) ≡ sum_from b g h (i + 1) ps
-passed-over b g h i [] ps = refl
-passed-over b g h i (s ∷ l) ps = rw (is-below i (i + 1) (omega arith)) (passed-over b g h i l ps)
+passed-over : (v : PairVariation) (b : List ℕ) (g h i : ℕ) (l : List ℕ) (ps : List PairSubtable)
+    → sum_from v b g h (i + 1) (map (in_lookup i) l ++ ps) ≡ sum_from v b g h (i + 1) ps
+passed-over v b g h i [] ps = refl
+passed-over v b g h i (s ∷ l) ps = rw (is-below i (i + 1) (omega arith)) (passed-over v b g h i l ps)
 
 zero-first : (z : ℤ) → z ≡ pos 0 +ℤ z
 zero-first z = grind (arith, ints)
@@ -72,33 +73,33 @@ by-value None applied passed rest others first second = second
 by-value (Some v) applied passed rest others first second = ap (λ (z : ℤ). v +ℤ z) first
 
 -- a lookup's value, and then the sum over the others
-one-lookup : (b : List ℕ) (g h i ended : ℕ) (l : List ℕ) (ps : List PairSubtable) (rest : ℤ) → ended ≤ i
-    → ((e : ℕ) → e ≤ i + 1 → sum_from b g h e ps ≡ rest)
-    → sum_from b g h ended (map (in_lookup i) l ++ ps) ≡ lookup_value b g h l +ℤ rest
-one-lookup b g h i ended [] ps rest order others = others ended (omega (arith, order)) ∙ zero-first rest
-one-lookup b g h i ended (s ∷ l) ps rest order others =
-    let applied = passed-over b g h i l ps ∙ others (i + 1) (omega arith) in
-    let passed = one-lookup b g h i ended l ps rest order others in
+one-lookup : (v : PairVariation) (b : List ℕ) (g h i ended : ℕ) (l : List ℕ) (ps : List PairSubtable) (rest : ℤ) → ended ≤ i
+    → ((e : ℕ) → e ≤ i + 1 → sum_from v b g h e ps ≡ rest)
+    → sum_from v b g h ended (map (in_lookup i) l ++ ps) ≡ lookup_value v b g h l +ℤ rest
+one-lookup v b g h i ended [] ps rest order others = others ended (omega (arith, order)) ∙ zero-first rest
+one-lookup v b g h i ended (s ∷ l) ps rest order others =
+    let applied = passed-over v b g h i l ps ∙ others (i + 1) (omega arith) in
+    let passed = one-lookup v b g h i ended l ps rest order others in
     rw (not-below i ended order)
-    (by-value (pair_value b s g h) (sum_from b g h (i + 1) (map (in_lookup i) l ++ ps))
-    (sum_from b g h ended (map (in_lookup i) l ++ ps)) rest (lookup_value b g h l) applied passed)
+    (by-value (pair_value v b s g h) (sum_from v b g h (i + 1) (map (in_lookup i) l ++ ps))
+    (sum_from v b g h ended (map (in_lookup i) l ++ ps)) rest (lookup_value v b g h l) applied passed)
 
-numbered-sum : (b : List ℕ) (g h i ended : ℕ) (ls : List (List ℕ)) → ended ≤ i
-    → sum_from b g h ended (numbered i ls) ≡ lookups_sum b g h ls
-numbered-sum b g h i ended [] order = refl
-numbered-sum b g h i ended (l ∷ ls) order =
-    one-lookup b g h i ended l (numbered (i + 1) ls) (lookups_sum b g h ls) order
-    (λ e below. numbered-sum b g h (i + 1) e ls below)
+numbered-sum : (v : PairVariation) (b : List ℕ) (g h i ended : ℕ) (ls : List (List ℕ)) → ended ≤ i
+    → sum_from v b g h ended (numbered i ls) ≡ lookups_sum v b g h ls
+numbered-sum v b g h i ended [] order = refl
+numbered-sum v b g h i ended (l ∷ ls) order =
+    one-lookup v b g h i ended l (numbered (i + 1) ls) (lookups_sum v b g h ls) order
+    (λ e below. numbered-sum v b g h (i + 1) e ls below)
 
-pub same-sum : (b : List ℕ) (g h feature : ℕ)
-    → sum_from b g h 0 (pairs_by b (Some feature)) ≡ lookups_sum b g h (subtables_of b feature)
+pub same-sum : (v : PairVariation) (b : List ℕ) (g h feature : ℕ)
+    → sum_from v b g h 0 (pairs_by b (Some feature)) ≡ lookups_sum v b g h (subtables_of b feature)
 unfolding subtables_of
-same-sum b g h feature =
+same-sum v b g h feature =
     rw (lookups-numbered b 0 (lookups_of b feature), take-numbered 0 64 (map (subtables_in b) (lookups_of b feature)))
-    (numbered-sum b g h 0 0 (first_of_all 64 (map (subtables_in b) (lookups_of b feature))) (omega arith))
+    (numbered-sum v b g h 0 0 (first_of_all 64 (map (subtables_in b) (lookups_of b feature))) (omega arith))
 
 -- the sum over the list is the kerning where GPOS has the feature
 pub kerning-by-list : (t : Tables) (g h feature : ℕ) → feature_of t.gpos ≡ Some feature
-    → sum_from t.gpos g h 0 (pairs_of t.gpos) ≡ kerning t g h
+    → sum_from t.variation t.gpos g h 0 (pairs_of t.gpos) ≡ kerning t g h
 unfolding pairs_of
-kerning-by-list t g h feature is = rw is (same-sum t.gpos g h feature)
+kerning-by-list t g h feature is = rw is (same-sum t.variation t.gpos g h feature)

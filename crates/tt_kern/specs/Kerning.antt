@@ -5,24 +5,26 @@ use Rattle.tt_kern.specs.Feature.{feature_of}
 use Rattle.tt_kern.specs.KernTable.{kern_sum}
 use Rattle.tt_kern.specs.Pair.{pair_value}
 use Rattle.tt_kern.specs.Pairs.{subtables_of}
+use Rattle.tt_kern.specs.Variation.{PairVariation}
 
--- the bytes of both tables; no bytes where a table isn't there
+-- the bytes of both tables, no bytes where a table isn't there; and how GPOS's values vary. The table kern does not vary
 pub record Tables : Type 0 where
   pub gpos : List ℕ
   pub kern : List ℕ
+  pub variation : PairVariation
 
 -- the value of the first subtable that applies, or 0
-abbrev pub lookup_value : List ℕ → ℕ → ℕ → List ℕ → ℤ
-lookup_value b g h [] = pos 0
-lookup_value b g h (s ∷ ss) = unwrap_or (pair_value b s g h) (lookup_value b g h ss)
+abbrev pub lookup_value : PairVariation → List ℕ → ℕ → ℕ → List ℕ → ℤ
+lookup_value v b g h [] = pos 0
+lookup_value v b g h (s ∷ ss) = unwrap_or (pair_value v b s g h) (lookup_value v b g h ss)
 
 -- the sum over lookups
-abbrev pub lookups_sum : List ℕ → ℕ → ℕ → List (List ℕ) → ℤ
-lookups_sum b g h [] = pos 0
-lookups_sum b g h (l ∷ ls) = lookup_value b g h l +ℤ lookups_sum b g h ls
+abbrev pub lookups_sum : PairVariation → List ℕ → ℕ → ℕ → List (List ℕ) → ℤ
+lookups_sum v b g h [] = pos 0
+lookups_sum v b g h (l ∷ ls) = lookup_value v b g h l +ℤ lookups_sum v b g h ls
 
 abbrev pub kerning_by : Option ℕ → Tables → ℕ → ℕ → ℤ
-kerning_by (Some feature) t g h = lookups_sum t.gpos g h (subtables_of t.gpos feature)
+kerning_by (Some feature) t g h = lookups_sum t.variation t.gpos g h (subtables_of t.gpos feature)
 kerning_by None t g h = kern_sum t.kern g h
 
 -- the kerning of two neighbouring glyphs, in font units

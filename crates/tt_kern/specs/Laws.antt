@@ -8,6 +8,7 @@ use Rattle.tt_kern.specs.KernTable.{count_taken, subtables_from}
 use Rattle.tt_kern.specs.Kerning.{kerning}
 use Rattle.tt_kern.specs.Pairs.{lookups_of, subtables_of}
 use Rattle.tt_kern.specs.Search.{key_at, found}
+use Rattle.tt_kern.specs.Variation.{PairVariation}
 
 -- i is where a search of n numbers may end: it passes, and the number before it fails
 pub record IsReached (passes : ℕ → Bool) (n i : ℕ) : Type 0 where
@@ -38,6 +39,6 @@ SubtablesAreFew = (b : List ℕ) (feature : ℕ) → sum_by length (subtables_of
 abbrev pub ListsOfKernAreShort : Type 0
 ListsOfKernAreShort = (m : KernVersion) (b : List ℕ) (p : ℕ) → length (subtables_from m b (count_taken m b) p) ≤ 32
 
--- a font without both tables has no kerning
+-- a font without both tables has no kerning, at any instance
 abbrev pub WithoutTablesNone : Type 0
-WithoutTablesNone = (g h : ℕ) → kerning (record { gpos = []; kern = [] }) g h ≡ pos 0
+WithoutTablesNone = (v : PairVariation) (g h : ℕ) → kerning (record { gpos = []; kern = []; variation = v }) g h ≡ pos 0

@@ -10,4 +10,5 @@ pub mod Pairs
 pub mod Reads
 pub mod Rows
 pub mod Search
+pub mod Variation
 pub mod Words

@@ -4,6 +4,7 @@ use Rattle.tt_kern.specs.declared.pairs.list.PairSubtable.{PairSubtable}
 use Rattle.tt_kern.specs.Feature.{feature_of}
 use Rattle.tt_kern.specs.Pair.{pair_value}
 use Rattle.tt_kern.specs.Pairs.{pair_place, lookup_place, subtable_count, lookups_of}
+use Rattle.tt_kern.specs.Variation.{PairVariation}
 
 -- its lookup is one of 32, and its offset is the sum of three words and a long
 pub record IsNear (p : PairSubtable) : Type 0 where
@@ -48,8 +49,8 @@ with_value None applied passed = passed
 with_value (Some v) applied passed = v +ℤ applied
 
 -- the sum over the list; lookups below a number have ended
-abbrev pub sum_from : List ℕ → ℕ → ℕ → ℕ → List PairSubtable → ℤ
-sum_from b g h ended [] = pos 0
-sum_from b g h ended (p ∷ ps) =
-    if nat_lt p.lookup ended then sum_from b g h ended ps
-    else with_value (pair_value b p.at g h) (sum_from b g h (p.lookup + 1) ps) (sum_from b g h ended ps)
+abbrev pub sum_from : PairVariation → List ℕ → ℕ → ℕ → ℕ → List PairSubtable → ℤ
+sum_from v b g h ended [] = pos 0
+sum_from v b g h ended (p ∷ ps) =
+    if nat_lt p.lookup ended then sum_from v b g h ended ps
+    else with_value (pair_value v b p.at g h) (sum_from v b g h (p.lookup + 1) ps) (sum_from v b g h ended ps)

@@ -15,6 +15,7 @@ use Rattle.tt_kern.specs.Listed.{pairs_of}
 use Rattle.tt_kern.specs.Pair.{values_size, pair_value}
 use Rattle.tt_kern.specs.Pairs.{lookups_of, lookup_place, subtable_place, subtable_count}
 use Rattle.tt_kern.specs.Search.{is_at_least, found}
+use Rattle.tt_kern.specs.Variation.{PairVariation, device_offset}
 use Rattle.tt_kern.specs.Words.{word}
 
 -- a number where there is a value, and where there is none
@@ -55,45 +56,66 @@ class_reads b c g =
 abbrev pub advance_reads : List ℕ → ℕ → ℕ
 advance_reads b s = if word b (s + 4) / 4 % 2 == 1 then 2 else 1
 
--- two formats, the count, a search and the values
-unfoldable pub set_reads : List ℕ → ℕ → ℕ → ℕ → ℕ
-set_reads b s set h =
-    3 + found_reads size.Word b (set + 2) (2 + values_size b s) (word b set) h
-    + if_some (found size.Word b (set + 2) (2 + values_size b s) (word b set) h) (advance_reads b s)
+-- the format of a device table, and its indexes if it has any
+abbrev pub indexes_reads : List ℕ → ℕ → ℕ → ℕ
+indexes_reads b parent offset = if offset == 0 then 0 else (if word b (parent + offset + 4) == 0x8000 then 3 else 1)
 
-abbrev pub by_sets_reads : List ℕ → ℕ → ℕ → ℕ → ℕ
-by_sets_reads b s index h =
-    if nat_lt index (word b (s + 8)) then 2 + set_reads b s (s + word b (s + 10 + 2 * index)) h else 1
+-- the format of the values, and the offset of the device table if the format has one
+abbrev pub offset_reads : List ℕ → ℕ → ℕ
+offset_reads b s = if word b (s + 4) / 64 % 2 == 1 then 2 else 1
+
+-- both, and the device table
+unfoldable pub device_reads : List ℕ → ℕ → ℕ → ℕ → ℕ
+device_reads b s parent values = offset_reads b s + indexes_reads b parent (device_offset b s values)
+
+-- a device table is read where GDEF has a store
+abbrev pub value_at_reads : PairVariation → List ℕ → ℕ → ℕ → ℕ → ℕ
+value_at_reads v b s parent values = advance_reads b s + if_some v.store (device_reads b s parent values)
+
+abbrev pub record_reads : PairVariation → List ℕ → ℕ → ℕ → Option ℕ → ℕ
+record_reads v b s set None = 0
+record_reads v b s set (Some i) = value_at_reads v b s set (set + 2 + (2 + values_size b s) * i + 2)
+
+-- two formats, the count, a search and the values
+unfoldable pub set_reads : PairVariation → List ℕ → ℕ → ℕ → ℕ → ℕ
+set_reads v b s set h =
+    3 + found_reads size.Word b (set + 2) (2 + values_size b s) (word b set) h
+    + record_reads v b s set (found size.Word b (set + 2) (2 + values_size b s) (word b set) h)
+
+abbrev pub by_sets_reads : PairVariation → List ℕ → ℕ → ℕ → ℕ → ℕ
+by_sets_reads v b s index h =
+    if nat_lt index (word b (s + 8)) then 2 + set_reads v b s (s + word b (s + 10 + 2 * index)) h else 1
 
 -- two offsets, two classes and their counts, two formats and the values
-unfoldable pub by_classes_reads : List ℕ → ℕ → ℕ → ℕ → ℕ
-by_classes_reads b s g h =
+unfoldable pub by_classes_reads : PairVariation → List ℕ → ℕ → ℕ → ℕ → ℕ
+by_classes_reads v b s g h =
     4 + class_reads b (s + word b (s + 8)) g + class_reads b (s + word b (s + 10)) h
     + (if nat_lt (class_of b (s + word b (s + 8)) g) (word b (s + 12)) && nat_lt (class_of b (s + word b (s + 10)) h) (word b (s + 14))
-    then 2 + advance_reads b s else 0)
+    then 2 + value_at_reads v b s s (s + 16 + values_size b s * (class_of b (s + word b (s + 8)) g * word b (s + 14) + class_of b (s + word b (s + 10)) h))
+    else 0)
 
-abbrev pub index_reads : List ℕ → ℕ → ℕ → ℕ → Option ℕ → ℕ
-index_reads b s g h None = 0
-index_reads b s g h (Some index) =
-    if word b s == 1 then 1 + by_sets_reads b s index h
-    else (if word b s == 2 then 1 + by_classes_reads b s g h else 1)
+abbrev pub index_reads : PairVariation → List ℕ → ℕ → ℕ → ℕ → Option ℕ → ℕ
+index_reads v b s g h None = 0
+index_reads v b s g h (Some index) =
+    if word b s == 1 then 1 + by_sets_reads v b s index h
+    else (if word b s == 2 then 1 + by_classes_reads v b s g h else 1)
 
 -- the numbers read of a pair subtable
-unfoldable pub pair_reads : List ℕ → ℕ → ℕ → ℕ → ℕ
-pair_reads b s g h =
-    1 + coverage_reads b (s + word b (s + 2)) g + index_reads b s g h (coverage_index b (s + word b (s + 2)) g)
+unfoldable pub pair_reads : PairVariation → List ℕ → ℕ → ℕ → ℕ → ℕ
+pair_reads v b s g h =
+    1 + coverage_reads b (s + word b (s + 2)) g + index_reads v b s g h (coverage_index b (s + word b (s + 2)) g)
 
 abbrev pub if_applied : Option ℤ → ℕ → ℕ → ℕ
 if_applied None applied passed = passed
 if_applied (Some v) applied passed = applied
 
 -- those of a list of pair subtables; lookups below a number have ended
-abbrev pub reads_from : List ℕ → ℕ → ℕ → ℕ → List PairSubtable → ℕ
-reads_from b g h ended [] = 0
-reads_from b g h ended (p ∷ ps) =
-    if nat_lt p.lookup ended then reads_from b g h ended ps
-    else pair_reads b p.at g h
-    + if_applied (pair_value b p.at g h) (reads_from b g h (p.lookup + 1) ps) (reads_from b g h ended ps)
+abbrev pub reads_from : PairVariation → List ℕ → ℕ → ℕ → ℕ → List PairSubtable → ℕ
+reads_from v b g h ended [] = 0
+reads_from v b g h ended (p ∷ ps) =
+    if nat_lt p.lookup ended then reads_from v b g h ended ps
+    else pair_reads v b p.at g h
+    + if_applied (pair_value v b p.at g h) (reads_from v b g h (p.lookup + 1) ps) (reads_from v b g h ended ps)
 
 -- the coverage of a subtable of kern is read again for a value, but not in Apple's version
 abbrev pub overrides_reads : KernVersion → ℕ
@@ -125,7 +147,7 @@ kern_reads b g h = (if word b 0 == 0 then 1 else 2) + kern_reads_by (version_of 
 
 abbrev pub reads_by : Option ℕ → Tables → ℕ → ℕ → ℕ
 reads_by None t g h = kern_reads t.kern g h
-reads_by (Some feature) t g h = reads_from t.gpos g h 0 (pairs_of t.gpos)
+reads_by (Some feature) t g h = reads_from t.variation t.gpos g h 0 (pairs_of t.gpos)
 
 -- the count of numbers that the kerning of two glyphs reads
 abbrev pub reads_of : Tables → ℕ → ℕ → ℕ

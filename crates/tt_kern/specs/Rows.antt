@@ -8,10 +8,11 @@ use Rattle.tt_kern.specs.KernTable.{kern_sum}
 use Rattle.tt_kern.specs.Listed.{pairs_of}
 use Rattle.tt_kern.specs.Pairs.{subtables_of}
 use Rattle.tt_kern.specs.Reads.{range_reads, coverage_reads, class_reads, set_reads, by_classes_reads, pair_reads, subtable_reads, kern_reads, reads_of, feature_reads, opening_reads}
+use Rattle.tt_kern.specs.Variation.{no_variation}
 use Rattle.tt_kern.specs.Words.{word, long}
 
 abbrev by_tables : List ℕ → List ℕ → ℤ
-by_tables gpos kern = kerning (record { gpos = gpos; kern = kern }) 1 1
+by_tables gpos kern = kerning (record { gpos = gpos; kern = kern; variation = no_variation }) 1 1
 
 -- a subtable of the table kern with one pair, by the coverage and the value
 abbrev kern_pair : ℕ → ℕ → ℕ → ℕ → List ℕ
@@ -46,6 +47,7 @@ abbrev of_1_and_2 : Tables
 of_1_and_2 = record {
   gpos = [];
   kern = 0 ∷ 0 ∷ 0 ∷ 1 ∷ 0 ∷ 0 ∷ 0 ∷ 20 ∷ 0 ∷ 1 ∷ 0 ∷ 1 ∷ 0 ∷ 6 ∷ 0 ∷ 0 ∷ 0 ∷ 0 ∷ 0 ∷ 1 ∷ 0 ∷ 2 ∷ 0xFF ∷ 0xC0 ∷ [];
+  variation = no_variation;
 }
 
 in_order : kerning of_1_and_2 1 2 ≡ negsuc 63
@@ -144,7 +146,7 @@ unfolding word long feature_of subtables_of kern_sum reached_within
 by_classes = refl
 
 -- the record of class 0 of the second glyph applies with 0
-of_class_0 : kerning (record { gpos = gpos_with (one_subtable classes); kern = [] }) 1 2 ≡ pos 0
+of_class_0 : kerning (record { gpos = gpos_with (one_subtable classes); kern = []; variation = no_variation }) 1 2 ≡ pos 0
 unfolding word long feature_of subtables_of kern_sum reached_within
 of_class_0 = refl
 
@@ -214,7 +216,7 @@ of_both = refl
 
 -- the counts of numbers that are read, by hand: without tables, by a pair of kern, by a set and by classes
 abbrev reads_by_tables : List ℕ → List ℕ → ℕ
-reads_by_tables gpos kern = reads_of (record { gpos = gpos; kern = kern }) 1 1
+reads_by_tables gpos kern = reads_of (record { gpos = gpos; kern = kern; variation = no_variation }) 1 1
 
 reads_without_tables : reads_by_tables [] [] ≡ 2
 unfolding word long feature_of kern_reads subtable_reads asked_within reached_within

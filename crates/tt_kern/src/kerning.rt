@@ -4,6 +4,7 @@ ghost use Rattle.std.specs.Prelude.{◌≡◌, ◌+◌, ◌^◌, ◌<◌, ◌≤
 ghost use Rattle.tt_core.specs.Limits.{font_limit};
 ghost use Rattle.tt_kern.specs.Kerning.{kerning};
 ghost use Rattle.tt_kern.specs.Reads.{opening_reads, reads_of};
+ghost use Rattle.tt_kern.specs.Variation.{no_variation};
 
 pub(crate) mod tally;
 
@@ -14,6 +15,7 @@ use crate::pair::GlyphPair;
 use crate::pairs::list::PairList;
 use crate::pairs::pairs_of;
 use crate::sum::pair_sum;
+use crate::variation::PairVariation;
 use crate::words::Words;
 use std::marker::Model;
 
@@ -26,8 +28,8 @@ pub struct PairKerning {
     pub reads: u32,
 }
 
-/// The tables GPOS and kern of a font, and GPOS's pair subtables, which are found once. Clauses see the bytes of both
-/// tables.
+/// The tables GPOS and kern of a font, GPOS's pair subtables, which are found once, and how GPOS's values vary. Clauses see
+/// the bytes of both tables and the variation.
 #[derive(Drop)]
 pub struct Kerning<'a> {
     gpos: Words<'a>,
@@ -35,6 +37,7 @@ pub struct Kerning<'a> {
     feature: Option<usize>,
     pairs: PairList,
     reads: u32,
+    variation: PairVariation<'a>,
 }
 
 impl<'a> Model for Kerning<'a> {
@@ -47,7 +50,7 @@ impl<'a> Model for Kerning<'a> {
 
     ghost Value = { Tables };
 
-    ghost view = { λ k. record { gpos = k.gpos; kern = k.kern } };
+    ghost view = { λ k. record { gpos = k.gpos; kern = k.kern; variation = k.variation } };
 
     ghost invariant = { λ k. (k.feature ≡ feature_of k.gpos) × (k.pairs ≡ pairs_of k.gpos)
         × (length k.kern ≤ font_limit) × (k.reads ≡ opening_reads k.gpos) × (k.reads < 10000) };
@@ -55,12 +58,12 @@ impl<'a> Model for Kerning<'a> {
 
 impl<'a> Kerning<'a> {
     /// Opens both tables, and finds the pair subtables of GPOS. A table that a font lacks is an empty slice; so is a
-    /// table whose record passes the file's end (profile). No defect of either table is an error. `reads` is the count
-    /// of numbers read.
+    /// table whose record passes the file's end (profile). No defect of either table is an error, and no value varies.
+    /// `reads` is the count of numbers read.
     pub fn open(gpos: &'a [u8], kern: &'a [u8]) -> Kerning<'a>
         requires gpos { length gpos.now ≤ font_limit }
         requires kern { length kern.now ≤ font_limit }
-        ensures exact { result ≡ record { gpos = gpos.now; kern = kern.now } }
+        ensures exact { result ≡ record { gpos = gpos.now; kern = kern.now; variation = no_variation } }
     {
         let gpos = Words::new(gpos);
         let kern = Words::new(kern);
@@ -73,7 +76,15 @@ impl<'a> Kerning<'a> {
             feature,
             pairs,
             reads: reads.count(),
+            variation: PairVariation::none(),
         }
+    }
+
+    /// Varies GPOS's values by a variation from now on. The table kern does not vary.
+    pub fn set_variation(&mut self, variation: PairVariation<'a>)
+        ensures { self.new ≡ record self.old { variation = variation.entry } }
+    {
+        self.variation = variation;
     }
 
     /// A copy, with the pair subtables that were found. The tables' bytes are not copied, and no number is read.
@@ -86,6 +97,7 @@ impl<'a> Kerning<'a> {
             feature: self.feature,
             pairs: self.pairs.copy(),
             reads: self.reads,
+            variation: self.variation.copy(),
         }
     }
 
@@ -106,7 +118,7 @@ impl<'a> Kerning<'a> {
     {
         let glyphs = GlyphPair { left, right };
         match self.feature {
-            Some(_) => pair_sum(&self.gpos, &self.pairs, glyphs, reads),
+            Some(_) => pair_sum(&self.gpos, &self.pairs, glyphs, &self.variation, reads),
             None => kern_sum(&self.kern, glyphs, reads),
         }
     }

@@ -10,6 +10,8 @@ mod pair;
 mod pairs;
 mod search;
 mod sum;
+mod variation;
 mod words;
 
 pub use kerning::{Kerning, PairKerning};
+pub use variation::PairVariation;

@@ -1,12 +1,13 @@
 //! The value of two glyphs in a subtable. OpenType, "GPOS", lookup type 2: pair adjustment positioning.
 
 ghost use Rattle.std.specs.Prelude.{◌≡◌, ◌+◌, ◌^◌, ◌<◌, ◌≤◌, IfSome, unsigned_abs};
-ghost use Rattle.tt_kern.specs.Pair.{bits, values_size, advance_at, value_in_set, value_by_sets, value_by_classes, pair_value};
-ghost use Rattle.tt_kern.specs.Reads.{advance_reads, set_reads, by_sets_reads, by_classes_reads, pair_reads};
+ghost use Rattle.tt_kern.specs.Pair.{bits, values_size, advance_at, value_at, value_in_set, value_by_sets, value_by_classes, pair_value};
+ghost use Rattle.tt_kern.specs.Reads.{advance_reads, value_at_reads, set_reads, by_sets_reads, by_classes_reads, pair_reads};
 
 use crate::coverage::{class_of, coverage_index};
 use crate::kerning::tally::Tally;
 use crate::search::{KeySize, Keys, find};
+use crate::variation::PairVariation;
 use crate::words::{Words, product};
 
 /// Two neighbouring glyphs.
@@ -60,6 +61,28 @@ fn advance_at(table: &Words, at: usize, values: usize, reads: &mut Tally) -> i32
     }
 }
 
+/// The value of the first glyph in the values at an offset, at an instance by its device table, whose parent is given.
+fn value_at(
+    table: &Words,
+    at: usize,
+    parent: usize,
+    values: usize,
+    variation: &PairVariation,
+    reads: &mut Tally,
+) -> i32
+    requires place { at < 2 ^ 34 }
+    requires parent { parent < 2 ^ 36 }
+    requires values { values < 2 ^ 50 }
+    requires room { reads.old + 7 < 2 ^ 32 }
+    ensures exact { result ≡ value_at variation.now table.now at parent values }
+    ensures bound { unsigned_abs result ≤ 32768 }
+    ensures count { reads.new ≡ reads.old + value_at_reads variation.now table.now at parent values }
+    ensures few { reads.new ≤ reads.old + 7 }
+{
+    let advance = advance_at(table, at, values, reads);
+    variation.varied(table, at, parent, values, advance, reads)
+}
+
 /// The value by a set of second glyphs, if it has the glyph.
 #[tactic(auto, unfolding(crate::specs::Reads::set_reads))]
 fn value_in_set(
@@ -67,15 +90,16 @@ fn value_in_set(
     at: usize,
     set: usize,
     right: usize,
+    variation: &PairVariation,
     reads: &mut Tally,
 ) -> Option<i32>
     requires place { at < 2 ^ 34 }
     requires set { set < 2 ^ 35 }
-    requires room { reads.old + 22 < 2 ^ 32 }
-    ensures exact { result ≡ value_in_set table.now at set right }
+    requires room { reads.old + 27 < 2 ^ 32 }
+    ensures exact { result ≡ value_in_set variation.now table.now at set right }
     ensures bound { IfSome result (λ v. unsigned_abs v ≤ 32768) }
-    ensures count { reads.new ≡ reads.old + set_reads table.now at set right }
-    ensures few { reads.new ≤ reads.old + 22 }
+    ensures count { reads.new ≡ reads.old + set_reads variation.now table.now at set right }
+    ensures few { reads.new ≤ reads.old + 27 }
 {
     let step = 2 + values_size(table, at, reads);
     let keys = Keys {
@@ -87,7 +111,7 @@ fn value_in_set(
     match find(table, keys, right, reads) {
         Some(i) => {
             let values = set + 2 + product(step, i) + 2;
-            Some(advance_at(table, at, values, reads))
+            Some(value_at(table, at, set, values, variation, reads))
         }
         None => None,
     }
@@ -99,19 +123,20 @@ fn value_by_sets(
     at: usize,
     index: usize,
     right: usize,
+    variation: &PairVariation,
     reads: &mut Tally,
 ) -> Option<i32>
     requires place { at < 2 ^ 34 }
     requires index { index < 2 ^ 17 }
-    requires room { reads.old + 24 < 2 ^ 32 }
-    ensures exact { result ≡ value_by_sets table.now at index right }
+    requires room { reads.old + 29 < 2 ^ 32 }
+    ensures exact { result ≡ value_by_sets variation.now table.now at index right }
     ensures bound { IfSome result (λ v. unsigned_abs v ≤ 32768) }
-    ensures count { reads.new ≡ reads.old + by_sets_reads table.now at index right }
-    ensures few { reads.new ≤ reads.old + 24 }
+    ensures count { reads.new ≡ reads.old + by_sets_reads variation.now table.now at index right }
+    ensures few { reads.new ≤ reads.old + 29 }
 {
     if index < table.word(at + 8, reads) {
         let set = at + table.word(at + 10 + 2 * index, reads);
-        value_in_set(table, at, set, right, reads)
+        value_in_set(table, at, set, right, variation, reads)
     } else {
         None
     }
@@ -119,13 +144,19 @@ fn value_by_sets(
 
 /// Format 2: the value by the classes of both glyphs.
 #[tactic(auto, unfolding(crate::specs::Reads::by_classes_reads))]
-fn value_by_classes(table: &Words, at: usize, glyphs: GlyphPair, reads: &mut Tally) -> Option<i32>
+fn value_by_classes(
+    table: &Words,
+    at: usize,
+    glyphs: GlyphPair,
+    variation: &PairVariation,
+    reads: &mut Tally,
+) -> Option<i32>
     requires place { at < 2 ^ 34 }
-    requires room { reads.old + 48 < 2 ^ 32 }
-    ensures exact { result ≡ value_by_classes table.now at glyphs.left glyphs.right }
+    requires room { reads.old + 53 < 2 ^ 32 }
+    ensures exact { result ≡ value_by_classes variation.now table.now at glyphs.left glyphs.right }
     ensures bound { IfSome result (λ v. unsigned_abs v ≤ 32768) }
-    ensures count { reads.new ≡ reads.old + by_classes_reads table.now at glyphs.left glyphs.right }
-    ensures few { reads.new ≤ reads.old + 48 }
+    ensures count { reads.new ≡ reads.old + by_classes_reads variation.now table.now at glyphs.left glyphs.right }
+    ensures few { reads.new ≤ reads.old + 53 }
 {
     let first_classes = at + table.word(at + 8, reads);
     let first = class_of(table, first_classes, usize::from(glyphs.left), reads);
@@ -136,34 +167,42 @@ fn value_by_classes(table: &Words, at: usize, glyphs: GlyphPair, reads: &mut Tal
     if first < first_count && second < count {
         let record = product(first, count) + second;
         let values = at + 16 + product(values_size(table, at, reads), record);
-        Some(advance_at(table, at, values, reads))
+        Some(value_at(table, at, at, values, variation, reads))
     } else {
         None
     }
 }
 
-/// The value of two glyphs by the subtable at an offset, if the subtable applies. At most 71 numbers are read.
+/// The value of two glyphs by the subtable at an offset, if the subtable applies. At most 76 numbers are read.
 #[tactic(auto, unfolding(crate::specs::Reads::pair_reads))]
 pub(crate) fn pair_value(
     table: &Words,
     at: usize,
     glyphs: GlyphPair,
+    variation: &PairVariation,
     reads: &mut Tally,
 ) -> Option<i32>
     requires place { at < 2 ^ 34 }
-    requires room { reads.old + 71 < 2 ^ 32 }
-    ensures exact { result ≡ pair_value table.now at glyphs.left glyphs.right }
+    requires room { reads.old + 76 < 2 ^ 32 }
+    ensures exact { result ≡ pair_value variation.now table.now at glyphs.left glyphs.right }
     ensures bound { IfSome result (λ v. unsigned_abs v ≤ 32768) }
-    ensures count { reads.new ≡ reads.old + pair_reads table.now at glyphs.left glyphs.right }
-    ensures few { reads.new ≤ reads.old + 71 }
+    ensures count { reads.new ≡ reads.old + pair_reads variation.now table.now at glyphs.left glyphs.right }
+    ensures few { reads.new ≤ reads.old + 76 }
 {
     let coverage = at + table.word(at + 2, reads);
     let Some(index) = coverage_index(table, coverage, usize::from(glyphs.left), reads) else {
         return None;
     };
     match table.word(at, reads) {
-        1 => value_by_sets(table, at, index, usize::from(glyphs.right), reads),
-        2 => value_by_classes(table, at, glyphs, reads),
+        1 => value_by_sets(
+            table,
+            at,
+            index,
+            usize::from(glyphs.right),
+            variation,
+            reads,
+        ),
+        2 => value_by_classes(table, at, glyphs, variation, reads),
         _ => None,
     }
 }

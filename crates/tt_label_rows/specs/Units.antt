@@ -50,6 +50,7 @@ its_metrics = record {
   hmtx = 1 ∷ 0 ∷ 0 ∷ 0 ∷ [];
   heights = Exact;
   kerning = None;
+  advances = None;
 }
 
 letter : ℕ → ℕ → RowUnit

@@ -78,8 +78,8 @@ unkerned_before m g gs off = kerning_none m g gs (λ g h. ap (λ (k : Option Tab
 
 pub no-table : NoTableNoKerning
 unfolding word long feature_of kern_sum
-no-table m g h (inl off) = ap (λ (k : Option Tables). kerning_by k g h) off
-no-table m g h (inr empty) = ap (λ (k : Option Tables). kerning_by k g h) empty ∙ refl
+no-table m v g h (inl off) = ap (λ (k : Option Tables). kerning_by k g h) off
+no-table m v g h (inr empty) = ap (λ (k : Option Tables). kerning_by k g h) empty ∙ refl
 
 -- the glyphs of a line before its last have their steps, whatever follows the line
 pub looks-ahead : KerningLooksOneAhead

@@ -141,6 +141,7 @@ with_gap gap = record {
   hmtx = [];
   heights = Exact;
   kerning = None;
+  advances = None;
 }
 
 -- 4, 0.5, a little less, and -8

@@ -4,6 +4,7 @@ use Rattle.tt_cmap.specs.Lookup.{Cmap, glyph_of}
 use Rattle.tt_cmap.specs.Maps.{CharacterMap, strict, wide}
 use Rattle.tt_cmap.specs.Units.{is_selector}
 use Rattle.tt_cmap.specs.WideLookup.{WideCmap, wide_glyph_of}
+use Rattle.tt_kern.specs.Variation.{PairVariation}
 use Rattle.tt_metrics.specs.Metrics.{Metrics, kerning_of}
 use Rattle.tt_line.specs.Layout.{Placement, advance_in_pixels, depth_of, glyph_placement, laid, pen_at, placement, rise_of, text_glyphs}
 use Rattle.tt_line.specs.Steps.{linear_line, linear_steps}
@@ -40,7 +41,8 @@ UnkernedLinesAdvance = (m : Metrics) (ppem : ℕ) (glyphs : List ℕ) → ((g h 
 
 -- where pairs are not kerned, and in a font without both tables, no pair has kerning
 abbrev pub NoTableNoKerning : Type 0
-NoTableNoKerning = (m : Metrics) (g h : ℕ) → ((m.kerning ≡ None) ⊎ (m.kerning ≡ Some (record { gpos = []; kern = [] })))
+NoTableNoKerning = (m : Metrics) (v : PairVariation) (g h : ℕ)
+    → ((m.kerning ≡ None) ⊎ (m.kerning ≡ Some (record { gpos = []; kern = []; variation = v })))
     → kerning_of m g h ≡ pos 0
 
 -- the glyphs after a line change the step of its last glyph alone

@@ -131,6 +131,7 @@ example = record {
   hmtx = 1 ∷ 0 ∷ 0 ∷ 0 ∷ 0 ∷ 250 ∷ 0 ∷ 0 ∷ 0 ∷ 8 ∷ 0 ∷ 0 ∷ [];
   heights = Exact;
   kerning = None;
+  advances = None;
 }
 
 rounded_up : map (λ n. ceiling_quotient n (pos 2)) (pos 7 ∷ negsuc 6 ∷ negsuc 7 ∷ []) ≡ pos 4 ∷ negsuc 2 ∷ negsuc 3 ∷ []

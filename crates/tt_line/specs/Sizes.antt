@@ -41,6 +41,7 @@ four_rows = record {
   hmtx = 1 ∷ 0 ∷ 0 ∷ 0 ∷ [];
   heights = Exact;
   kerning = None;
+  advances = None;
 }
 
 a_gap_of_one : line_size four_rows 16 0 4 ≡ Ok (record { width = 4; height = 5; rise = pos 4; depth = pos 1; gap = 1; step = 6 })

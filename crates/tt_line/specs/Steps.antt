@@ -6,6 +6,7 @@ use Rattle.tt_kern.specs.Feature.{feature_of}
 use Rattle.tt_kern.specs.Halves.{reached_within}
 use Rattle.tt_kern.specs.KernTable.{kern_sum}
 use Rattle.tt_kern.specs.Words.{word, long}
+use Rattle.tt_kern.specs.Variation.{no_variation}
 use Rattle.tt_metrics.specs.declared.head.LocaFormat.TheVariants.{Short}
 use Rattle.tt_metrics.specs.declared.heights.Heights.TheVariants.{Exact}
 use Rattle.tt_metrics.specs.Metrics.{Metrics, advance_of, kerning_of, units_per_em_of}
@@ -47,6 +48,7 @@ unkerned = record {
   hmtx = 1 ∷ 0 ∷ 0 ∷ 0 ∷ [];
   heights = Exact;
   kerning = None;
+  advances = None;
 }
 
 -- a pair of the table kern: two glyphs, and two bytes of its value
@@ -59,6 +61,7 @@ kerned high low = record unkerned {
   kerning = Some (record {
     gpos = [];
     kern = 0 ∷ 0 ∷ 0 ∷ 1 ∷ 0 ∷ 0 ∷ 0 ∷ 26 ∷ 0 ∷ 1 ∷ 0 ∷ 2 ∷ 0 ∷ 0 ∷ 0 ∷ 0 ∷ 0 ∷ 0 ∷ (pair 1 1 high low ++ pair 1 2 0 64);
+    variation = no_variation;
   });
 }
 

@@ -5,3 +5,4 @@ pub mod Laws
 pub mod Maxp
 pub mod Metrics
 pub mod Tables
+pub mod Varied

@@ -6,6 +6,7 @@ use Rattle.tt_core.specs.Faults.{Fault}
 use Rattle.tt_core.specs.Outcomes.{◌>>=◌}
 use Rattle.tt_metrics.specs.declared.head.Head.{Head}
 use Rattle.tt_kern.specs.Kerning.{Tables, kerning}
+use Rattle.tt_variation_store.specs.Store.{Store}
 use Rattle.tt_metrics.specs.declared.head.LocaFormat.{LocaFormat}
 use Rattle.tt_metrics.specs.declared.heights.Heights.{Heights}
 use Rattle.tt_metrics.specs.declared.heights.Heights.TheVariants.{Exact}
@@ -15,6 +16,7 @@ use Rattle.tt_metrics.specs.Head.{smallest_em, largest_em, head_of, IsHeadDefect
 use Rattle.tt_metrics.specs.Hhea.{hhea_of, IsHheaDefect}
 use Rattle.tt_metrics.specs.Hmtx.{hmtx_of, advance_in, bearing_in, IsHmtxDefect}
 use Rattle.tt_metrics.specs.Maxp.{maxp_of, IsMaxpDefect}
+use Rattle.tt_metrics.specs.Varied.{VariedAdvances, advance_by, advances_by, hhea_by}
 
 pub record Metrics : Type 0 where
   pub head : Head
@@ -23,16 +25,22 @@ pub record Metrics : Type 0 where
   pub hmtx : List ℕ
   pub heights : Heights
   pub kerning : Option Tables
+  pub advances : Option VariedAdvances
 
--- the four tables, read in this order; the first fault is the result. Heights are exact and no pair is kerned, unless
--- that is asked for
+-- the four tables, read in this order; the first fault is the result. Heights are exact, no pair is kerned, and heights and
+-- advances are those of the font's default, unless that is asked for
 unfoldable pub metrics_of : Directory → Result Metrics Fault
 metrics_of directory = do
   head ← head_of directory
   maxp ← maxp_of directory
   hhea ← hhea_of directory
   hmtx ← hmtx_of directory hhea.long_metrics
-  Ok (record { head = head; maxp = maxp; hhea = hhea; hmtx = hmtx; heights = Exact; kerning = None })
+  Ok (record { head = head; maxp = maxp; hhea = hhea; hmtx = hmtx; heights = Exact; kerning = None; advances = None })
+
+-- the metrics of an instance, by MVAR and HVAR where these are there
+abbrev pub varied_metrics : Option Store → Option Store → List ℤ → Metrics → Metrics
+varied_metrics mvar hvar coordinates m =
+    record m { hhea = hhea_by mvar coordinates m.hhea; advances = advances_by hvar coordinates }
 
 -- font units in an em
 abbrev pub units_per_em_of : Metrics → ℕ
@@ -63,7 +71,7 @@ abbrev pub line_gap_of : Metrics → ℤ
 line_gap_of m = m.hhea.line_gap
 
 abbrev pub advance_of : Metrics → ℕ → ℕ
-advance_of m g = advance_in m.hmtx m.hhea.long_metrics g
+advance_of m g = advance_by m.advances g (advance_in m.hmtx m.hhea.long_metrics g)
 
 abbrev pub left_side_bearing_of : Metrics → ℕ → ℤ
 left_side_bearing_of m g = bearing_in m.hmtx m.hhea.long_metrics g

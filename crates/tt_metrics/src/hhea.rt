@@ -1,7 +1,9 @@
 //! The horizontal header. Apple TrueType Reference Manual, "The 'hhea' table".
 
 use crate::table::{Fields, test_length};
+use tt_axes::InstanceCoordinates;
 use tt_core::{Fault, Why, i16_at, u16_at};
+use tt_variation_store::{Height, Mvar};
 
 pub(crate) const HHEA: [u8; 4] = *b"hhea";
 
@@ -41,5 +43,33 @@ impl Fields for Hhea {
             line_gap: i16_at(hhea, 8).unwrap(),
             long_metrics,
         })
+    }
+}
+
+impl Hhea {
+    ghost use Rattle.std.specs.Prelude.{◌≡◌};
+    ghost use Rattle.tt_metrics.specs.Varied.{hhea_by, moved_hhea};
+
+    /// The same with the heights of an instance.
+    fn moved(self, mvar: &Mvar, coordinates: &InstanceCoordinates) -> Hhea
+        ensures { result ≡ moved_hhea mvar.now coordinates.now self }
+    {
+        Hhea {
+            ascent: mvar.height(Height::Ascent, self.ascent, coordinates),
+            descent: mvar.height(Height::Descent, self.descent, coordinates),
+            line_gap: mvar.height(Height::LineGap, self.line_gap, coordinates),
+            long_metrics: self.long_metrics,
+        }
+    }
+
+    /// The same with the heights of an instance, where MVAR is there.
+    pub(crate) fn moved_by(self, mvar: &Option<Mvar>, coordinates: &InstanceCoordinates) -> Hhea
+        ensures exact { result ≡ hhea_by mvar.now coordinates.now self }
+        ensures kept { result.long_metrics ≡ self.long_metrics }
+    {
+        match mvar {
+            Some(mvar) => self.moved(mvar, coordinates),
+            None => self,
+        }
     }
 }

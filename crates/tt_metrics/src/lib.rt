@@ -1,6 +1,7 @@
 //! The numbers of head, maxp, hhea and hmtx, and how a line is laid out by them.
 #![tactic(auto)]
 
+mod advances;
 mod head;
 mod heights;
 mod hhea;

@@ -4,21 +4,26 @@ ghost use Rattle.std.specs.Prelude.{◌≡◌, ◌^◌, ◌<◌, ◌≤◌, is_s
 ghost use Rattle.tt_core.specs.Directory.{HasNo};
 ghost use Rattle.tt_core.specs.Outcomes.{Gives};
 ghost use Rattle.tt_metrics.specs.Head.{smallest_em, largest_em};
-ghost use Rattle.tt_metrics.specs.Metrics.{metrics_of, units_per_em_of, loca_format_of, glyphs_of, twilight_of, storage_of, ascent_of, descent_of, line_gap_of, advance_of, left_side_bearing_of, kerning_of, IsInRange, IsMetricsDefect};
+ghost use Rattle.tt_metrics.specs.Metrics.{metrics_of, units_per_em_of, loca_format_of, glyphs_of, twilight_of, storage_of, ascent_of, descent_of, line_gap_of, advance_of, left_side_bearing_of, kerning_of, varied_metrics, IsInRange, IsMetricsDefect};
+ghost use Rattle.tt_metrics.specs.Hmtx.{advance_in};
+ghost use Rattle.tt_metrics.specs.Varied.{advances_by};
 
+use crate::advances::VariedAdvances;
 use crate::head::{HEAD, Head, LocaFormat};
 use crate::heights::Heights;
 use crate::hhea::{HHEA, Hhea};
 use crate::maxp::{MAXP, Maxp};
 use crate::table::{Fields, test_length};
 use std::marker::Model;
+use tt_axes::InstanceCoordinates;
 use tt_core::{Dir, Fault, i16_at, u16_at};
 use tt_kern::Kerning;
+use tt_variation_store::{Hvar, Mvar};
 
 const HMTX: [u8; 4] = *b"hmtx";
 
 /// The fields of head, maxp and hhea, and the bytes of hmtx; how heights are rounded, and the tables of the kerning where
-/// pairs are kerned. Clauses see all of these.
+/// pairs are kerned; and how an instance's advances vary, if HVAR says so. Clauses see all of these.
 #[derive(Drop)]
 pub struct Metrics<'a> {
     head: Head,
@@ -27,6 +32,7 @@ pub struct Metrics<'a> {
     hmtx: &'a [u8],
     heights: Heights,
     kerning: Option<Kerning<'a>>,
+    advances: Option<VariedAdvances<'a>>,
 }
 
 impl<'a> Model for Metrics<'a> {
@@ -36,9 +42,9 @@ impl<'a> Model for Metrics<'a> {
 
     ghost Value = { metrics.Metrics };
 
-    ghost view = { λ m. record { head = m.head; maxp = m.maxp; hhea = m.hhea; hmtx = m.hmtx.now; heights = m.heights; kerning = m.kerning } };
+    ghost view = { λ m. record { head = m.head; maxp = m.maxp; hhea = m.hhea; hmtx = m.hmtx.now; heights = m.heights; kerning = m.kerning; advances = m.advances } };
 
-    ghost invariant = { λ m. IsInRange (record { head = m.head; maxp = m.maxp; hhea = m.hhea; hmtx = m.hmtx.now; heights = m.heights; kerning = m.kerning }) };
+    ghost invariant = { λ m. IsInRange (record { head = m.head; maxp = m.maxp; hhea = m.hhea; hmtx = m.hmtx.now; heights = m.heights; kerning = m.kerning; advances = m.advances }) };
 }
 
 fn copied<'a>(kerning: &Option<Kerning<'a>>) -> Option<Kerning<'a>>
@@ -46,6 +52,27 @@ fn copied<'a>(kerning: &Option<Kerning<'a>>) -> Option<Kerning<'a>>
 {
     match kerning {
         Some(kerning) => Some(kerning.copy()),
+        None => None,
+    }
+}
+
+fn copied_advances<'a>(advances: &Option<VariedAdvances<'a>>) -> Option<VariedAdvances<'a>>
+    ensures { result ≡ advances.now }
+{
+    match advances {
+        Some(advances) => Some(advances.copy()),
+        None => None,
+    }
+}
+
+fn advances_by<'a>(
+    hvar: Option<Hvar<'a>>,
+    coordinates: &InstanceCoordinates,
+) -> Option<VariedAdvances<'a>>
+    ensures { result ≡ advances_by hvar.entry coordinates.now }
+{
+    match hvar {
+        Some(hvar) => Some(VariedAdvances::new(hvar, coordinates)),
         None => None,
     }
 }
@@ -71,6 +98,7 @@ impl<'a> Metrics<'a> {
             hmtx,
             heights: Heights::Exact,
             kerning: None,
+            advances: None,
         })
     }
 
@@ -88,6 +116,27 @@ impl<'a> Metrics<'a> {
         self.kerning = kerning;
     }
 
+    /// Has the heights and the advances of an instance from now on, where MVAR and HVAR are there. Heights are moved here,
+    /// so that the instance is given once.
+    pub fn set_instance(
+        &mut self,
+        mvar: &Option<Mvar<'a>>,
+        hvar: Option<Hvar<'a>>,
+        coordinates: &InstanceCoordinates,
+    )
+        ensures { self.new ≡ varied_metrics mvar.now hvar.entry coordinates.now self.old }
+    {
+        self.hhea = self.hhea.moved_by(mvar, coordinates);
+        self.advances = advances_by(hvar, coordinates);
+    }
+
+    /// Whether HVAR gives the advances of an instance.
+    pub fn has_varied_advances(&self) -> bool
+        ensures { result ≡ is_some self.now.advances }
+    {
+        self.advances.is_some()
+    }
+
     /// A copy of the metrics. The tables' bytes are not copied.
     pub fn copy(&self) -> Metrics<'a>
         ensures { result ≡ self.now }
@@ -99,6 +148,7 @@ impl<'a> Metrics<'a> {
             hmtx: self.hmtx,
             heights: self.heights,
             kerning: copied(&self.kerning),
+            advances: copied_advances(&self.advances),
         }
     }
 
@@ -161,13 +211,24 @@ impl<'a> Metrics<'a> {
         self.maxp.twilight
     }
 
-    /// The advance of a glyph, in font units.
+    /// The advance of a glyph in hmtx, in font units.
+    fn long_advance(&self, g: u16) -> u16
+        ensures { result ≡ advance_in self.now.hmtx self.now.hhea.long_metrics g }
+    {
+        let last = self.hhea.long_metrics - 1;
+        u16_at(self.hmtx, 4 * usize::from(g.min(last))).unwrap()
+    }
+
+    /// The advance of a glyph, in font units: that of hmtx, and at an instance by HVAR where HVAR is there.
     pub fn advance(&self, g: u16) -> u16
         requires { g < glyphs_of self.now }
         ensures { result ≡ advance_of self.now g }
     {
-        let last = self.hhea.long_metrics - 1;
-        u16_at(self.hmtx, 4 * usize::from(g.min(last))).unwrap()
+        let advance = self.long_advance(g);
+        match &self.advances {
+            Some(advances) => advances.advance(g, advance),
+            None => advance,
+        }
     }
 
     /// The left side bearing of a glyph, in font units.

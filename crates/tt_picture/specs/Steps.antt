@@ -47,6 +47,7 @@ its_metrics em = record {
   hmtx = 1 ∷ 0 ∷ 0 ∷ 0 ∷ [];
   heights = Exact;
   kerning = None;
+  advances = None;
 }
 
 -- Programs leave 5 pixels. Half a pixel less goes up; then a little more; then all, half a pixel more, and a pixel more

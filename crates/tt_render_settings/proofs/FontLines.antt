@@ -1,5 +1,5 @@
 -- A call that stops before it reads a line, and the font that lines are drawn by.
-use Rattle.std.proofs.Common.{◌≡◌, ◌∙◌, ap, sym, ℕ, ◌≤◌, Bool, false, nat_lt, List, length, Option, Result, Ok, Err, IfSome, refl, arith}
+use Rattle.std.proofs.Common.{◌≡◌, ◌∙◌, ap, sym, ℕ, ◌≤◌, Bool, false, nat_lt, List, length, Option, None, Result, Ok, Err, IfSome, refl, arith}
 use Rattle.std.proofs.lemmas.Bool.Decides.{nat_tests}
 use Rattle.tt_core.specs.Chains.{came-through}
 use Rattle.tt_core.specs.Collections.{directory_at, directory_by, offset_of}
@@ -58,7 +58,7 @@ face_directory d r face was =
     let by_metrics = came-through (metrics_of d) _ face was in
     let by_table = came-through (needed_table d cmap_tag) _ face by_metrics.rest in
     let by_map = came-through (map_by r by_table.value (glyphs_of by_metrics.value)) _ face by_table.rest in
-    let same : record { directory = d; metrics = by_metrics.value; cmap = by_map.value } ≡ face = let done = by_map.rest in cc in
+    let same : record { directory = d; metrics = by_metrics.value; cmap = by_map.value; instance = None } ≡ face = let done = by_map.rest in cc in
     ap (λ (f : Face). f.directory) same
 
 -- the directory of a face is in the file that was read

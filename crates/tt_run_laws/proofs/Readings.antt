@@ -1,5 +1,5 @@
 -- The answers of `run` and `map` by the strict reading, by the wide one, and by a face's own font.
-use Rattle.std.proofs.Common.{◌≡◌, ◌∙◌, ℕ, ◌≤◌, Bool, true, false, nat_lt, if◌then◌else◌, All, List, [], ◌∷◌, ◌++◌, length, map, flat_map, chars, Result, Ok, Err, refl, sym, ap, ap₂, arith}
+use Rattle.std.proofs.Common.{◌≡◌, ◌∙◌, ℕ, ◌≤◌, Bool, true, false, nat_lt, if◌then◌else◌, All, List, [], ◌∷◌, ◌++◌, length, map, flat_map, chars, Option, Some, None, Result, Ok, Err, refl, sym, ap, ap₂, arith}
 use Rattle.std.proofs.lemmas.Bool.Decides.{nat_tests}
 use Rattle.tt_cmap.specs.Lookup.{Cmap, glyph_of}
 use Rattle.tt_cmap.specs.Maps.{CharacterMap, strict, wide, glyph_by, glyph_of_unit, map_by, units_by}
@@ -16,9 +16,9 @@ use Rattle.tt_core.specs.Faults.{Fault}
 use Rattle.tt_core.specs.Limits.{font_limit}
 use Rattle.tt_core.specs.Outcomes.{◌>>=◌}
 use Rattle.tt_face.specs.declared.rules.LineRules.{LineRules}
-use Rattle.tt_face.specs.Faces.{Face, cmap_tag}
+use Rattle.tt_face.specs.Faces.{Face, FaceInstance, cmap_tag}
 use Rattle.tt_face.specs.Files.{FacesAreTheirFonts, SameTables, StrictIsTheFace, WideFacesExtend, face_at, face_by, face_of, face_with}
-use Rattle.tt_face.specs.Rules.{gpos_tag, kern_tag, kerning_by, ruled, table_bytes}
+use Rattle.tt_face.specs.Rules.{gdef_tag, gpos_tag, kern_tag, kerning_by, ruled, table_bytes}
 use Rattle.tt_line.specs.Layout.{text_glyphs}
 use Rattle.tt_metrics.specs.Metrics.{Metrics, advance_of, glyphs_of, metrics_of}
 use Rattle.tt_picture.specs.Pictures.{Image}
@@ -129,8 +129,8 @@ lines_alike m k l text plain same =
     ∙ ap (flat_map (map_line m l)) (sym (plain_units l cs plain))
 
 -- the metrics of a face with some rules
-abbrev ruled_metrics : LineRules → Metrics → Directory → Metrics
-ruled_metrics rules m d = record m { heights = rules.heights; kerning = kerning_by rules.kerned d }
+abbrev ruled_metrics : LineRules → Option FaceInstance → Metrics → Directory → Metrics
+ruled_metrics rules i m d = record m { heights = rules.heights; kerning = kerning_by rules.kerned d i }
 
 -- the wide reading
 same_tables : (d e : Directory) → d ≡ e → SameTables d e
@@ -142,7 +142,8 @@ wide_runs first extends alike rules a file face was plain =
     let more = extends file face was in
     let strict_face : face_by file reading.Strict ≡ Ok face = first file ∙ was in
     let glyphs = glyphs_alike more.wide.cmap face.cmap a.text plain more.same in
-    let metrics = ap₂ (ruled_metrics rules) more.metrics more.directory in
+    let metrics = ap₂ (ruled_metrics rules more.wide.instance) more.metrics more.directory
+    ∙ ap (λ (i : Option FaceInstance). ruled_metrics rules i face.metrics face.directory) more.instance in
     let drawn = alike (ruled rules more.wide) (ruled rules face) a (same_tables _ _ more.directory) metrics glyphs in
     let by = answered (tested a) (λ (r : Result Face Fault). run_by rules a r) file in
     run_answered (reading.Wide 0) rules a file
@@ -171,20 +172,21 @@ face_directory d r face was =
     let by_metrics = came-through (metrics_of d) _ face was in
     let by_table = came-through (needed_table d cmap_tag) _ face by_metrics.rest in
     let by_map = came-through (map_by r by_table.value (glyphs_of by_metrics.value)) _ face by_table.rest in
-    let same : record { directory = d; metrics = by_metrics.value; cmap = by_map.value } ≡ face = let done = by_map.rest in cc in
+    let same : record { directory = d; metrics = by_metrics.value; cmap = by_map.value; instance = None } ≡ face = let done = by_map.rest in cc in
     ap (λ (f : Face). f.directory) same
 
 -- a face with its directory elsewhere
 abbrev moved : Directory → Face → Face
-moved e face = record { directory = e; metrics = face.metrics; cmap = face.cmap }
+moved e face = record { directory = e; metrics = face.metrics; cmap = face.cmap; instance = face.instance }
 
 abbrev all_moved : Directory → Result Face Fault → Result Face Fault
 all_moved e faces = faces >>= λ face. Ok (moved e face)
 
-kerned_alike : (kerned : Bool) (d e : Directory) → SameTables d e → kerning_by kerned d ≡ kerning_by kerned e
+kerned_alike : (kerned : Bool) (i : Option FaceInstance) (d e : Directory) → SameTables d e → kerning_by kerned d i ≡ kerning_by kerned e i
 unfolding table_bytes
-kerned_alike true d e same = rw (same gpos_tag, same kern_tag) refl
-kerned_alike false d e same = refl
+kerned_alike true None d e same = rw (same gpos_tag, same kern_tag) refl
+kerned_alike true (Some i) d e same = rw (same gpos_tag, same kern_tag, same gdef_tag) refl
+kerned_alike false i d e same = refl
 
 runs_moved : FacesDrawAlike → (rules : LineRules) (a : Job) (d e : Directory) (r : Result Face Fault)
     → ((face : Face) → r ≡ Ok face → d ≡ face.directory) → SameTables d e
@@ -192,7 +194,7 @@ runs_moved : FacesDrawAlike → (rules : LineRules) (a : Job) (d e : Directory) 
 unfolding ruled
 runs_moved alike rules a d e (Ok face) its same =
     let tables : SameTables face.directory e = λ tag. ap (λ (x : Directory). table_of x tag) (sym (its face refl)) ∙ same tag in
-    let metrics : (ruled rules face).metrics ≡ (ruled rules (moved e face)).metrics = rw (kerned_alike rules.kerned face.directory e tables) refl in
+    let metrics : (ruled rules face).metrics ≡ (ruled rules (moved e face)).metrics = rw (kerned_alike rules.kerned face.instance face.directory e tables) refl in
     ap (λ (image : Result Image Refused). as_file image)
     (alike (ruled rules face) (ruled rules (moved e face)) a tables metrics refl)
 runs_moved alike rules a d e (Err f) its same = refl

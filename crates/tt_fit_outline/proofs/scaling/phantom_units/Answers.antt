@@ -33,6 +33,10 @@ returns c =
     let descent : SFits w16 c.descent.result = search rules in
     let x_is = simp to_z-of_z at c.from.ensures in
     let bearing_is = simp to_z-of_z at c.from-2.ensures in
+    let up : SFits w32 c.from-4.result = search rules in
+    let down : SFits w32 c.from-5.result = search rules in
+    let up_is = simp to_z-of_z at c.from-4.ensures in
+    let down_is = simp to_z-of_z at c.from-5.ensures in
     let top = c.ascent.ensures in
     simp to_z-of_z
-    (rw (x_is, bearing_is, c.lsb.ensures, c.from-3.ensures, c.advance.ensures, top, c.descent.ensures) refl)
+    (rw (x_is, bearing_is, c.lsb.ensures, c.from-3.ensures, c.advance.ensures, up_is, top, down_is, c.descent.ensures) refl)

@@ -6,4 +6,4 @@ use Rattle.tt_kern.proofs.laws.without_tables_none.Goals as goal
 
 pub returns : goal.returns
 unfolding word long feature_of kern_sum
-returns c = λ g h. refl
+returns c = λ v g h. refl

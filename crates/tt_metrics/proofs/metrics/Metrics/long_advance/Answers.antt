@@ -1,6 +1,6 @@
 use Rattle.std.proofs.Common.{◌-◌, ◌*◌, ◌∙◌, min, sym}
 use Rattle.tt_core.proofs.Numbers.{number_told}
-use Rattle.tt_metrics.proofs.metrics.Metrics.advance.Goals as goal
+use Rattle.tt_metrics.proofs.metrics.Metrics.long_advance.Goals as goal
 
 pub returns : goal.returns
 returns c =

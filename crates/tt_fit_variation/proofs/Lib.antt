@@ -1,0 +1,2 @@
+mod Near
+mod Lists

@@ -1,0 +1,20 @@
+//! A glyph at an instance: its points, its components and its phantom points. OpenType, "gvar".
+#![tactic(auto)]
+
+mod advance;
+mod coordinate;
+mod end;
+mod ends;
+mod fine;
+mod glyph;
+mod points;
+mod records;
+mod varied_glyph;
+mod varied_point;
+
+pub use end::EndDeltas;
+pub use fine::varied_control_value;
+pub use glyph::GlyphVariation;
+pub use points::{InstancePoint, instance_points};
+pub use records::moved_records;
+pub use varied_glyph::GlyphDeltas;

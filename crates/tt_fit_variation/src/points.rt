@@ -1,0 +1,90 @@
+//! The points of a simple glyph at an instance. OpenType, "gvar".
+
+ghost use Rattle.std.specs.Prelude.{◌≡◌, ◌^◌, ◌≤◌, length, All, IfOk};
+ghost use Rattle.tt_core.specs.Outcomes.{FontGives, Gives};
+ghost use Rattle.tt_deltas.specs.Along.{IsWithin};
+ghost use Rattle.tt_fit_outline.specs.Outline.{IsPoint};
+ghost use Rattle.tt_fit_outline.specs.Views.{size_view};
+ghost use Rattle.tt_fit_variation.specs.Moved.{instance_point, instance_points, with_deltas};
+ghost use Rattle.tt_fit_variation.specs.Views.{point_view, points_view};
+
+use crate::coordinate::moved_coordinate;
+use crate::varied_point::VariedPoint;
+use std::alloc::{AllocError, Global};
+use tt_core::{Fault, FontFault};
+use tt_deltas::Varied;
+use tt_fit_outline::FontSize;
+use tt_glyf::RawPoint;
+
+/// A point at an instance, in whole font units and in 26.6 pixels.
+#[derive(Clone, Copy)]
+pub struct InstancePoint {
+    pub unit: RawPoint,
+    pub place: (i32, i32, bool),
+    pub ghost within: { IsPoint place },
+}
+
+/// Each point with the deltas of its coordinates.
+fn with_deltas(
+    alloc: Global,
+    points: &[RawPoint],
+    xs: &[Varied],
+    ys: &[Varied],
+) -> Result<Vec<VariedPoint>, AllocError>
+    requires xs { length points.now ≤ length xs.now }
+    requires ys { length points.now ≤ length ys.now }
+    requires x_near { All (IsWithin (2 ^ 46)) xs.now }
+    requires y_near { All (IsWithin (2 ^ 46)) ys.now }
+    ensures { IfOk result (λ v. v.items ≡ with_deltas points.now xs.now ys.now) }
+{
+    let mut varied = Vec::with_capacity(alloc, points.len())?;
+    for i in 0..points.len() {
+        varied.push(VariedPoint {
+            x: xs[i],
+            y: ys[i],
+            on: points[i].on,
+        })?;
+    }
+    Ok(varied)
+}
+
+/// A point at an instance. Error: CoordRange, at this offset in glyf.
+#[tactic(auto, unfolding(crate::specs::Moved::instance_point))]
+fn instance_point(size: FontSize, at: u32, point: VariedPoint) -> Result<InstancePoint, Fault>
+    ensures exact { Gives point_view result (instance_point (size_view size) at point) }
+{
+    let x = moved_coordinate(size, at, point.x)?;
+    let y = moved_coordinate(size, at, point.y)?;
+    Ok(InstancePoint {
+        unit: RawPoint {
+            x: x.unit,
+            y: y.unit,
+            on: point.on,
+        },
+        place: (x.place, y.place, point.on),
+    })
+}
+
+/// The points of a simple glyph that begins at this offset in glyf. Deltas follow for phantom points. Errors: CoordRange,
+/// Memory.
+pub fn instance_points(
+    alloc: Global,
+    size: FontSize,
+    at: u32,
+    points: &[RawPoint],
+    xs: &[Varied],
+    ys: &[Varied],
+) -> Result<Vec<InstancePoint>, FontFault>
+    requires xs { length points.now ≤ length xs.now }
+    requires ys { length points.now ≤ length ys.now }
+    requires x_near { All (IsWithin (2 ^ 46)) xs.now }
+    requires y_near { All (IsWithin (2 ^ 46)) ys.now }
+    ensures exact { FontGives (λ v. points_view v.items) result (instance_points (size_view size) at points.now xs.now ys.now) }
+{
+    let varied = with_deltas(alloc, points, xs, ys)?;
+    let mut moved = Vec::with_capacity(alloc, varied.len())?;
+    for point in &varied {
+        moved.push(instance_point(size, at, *point)?)?;
+    }
+    Ok(moved)
+}
