@@ -1,6 +1,6 @@
 -- OpenType, "The 'glyf' table" and "gvar": the outline of a glyph at a size, with its components made first, in the order
 -- of their records. A glyph is begun by the font's default or at an instance. All that follows sees no instance.
-use Rattle.std.specs.Prelude.{◌≡◌, ℕ, zero, suc, ◌-◌, ◌≤◌, ◌==◌, Bool, if◌then◌else◌, ℤ, pos, is_some, List, [], ◌∷◌, length, map, Option, Some, None, Result, Ok, Err, refl}
+use Rattle.std.specs.Prelude.{◌≡◌, ℕ, zero, suc, ◌-◌, ◌≤◌, ◌==◌, Bool, if◌then◌else◌, ℤ, pos, is_some, List, [], ◌∷◌, length, Option, Some, None, Result, Ok, Err, refl}
 use Rattle.tt_core.specs.Faults.{Fault}
 use Rattle.tt_core.specs.declared.fault.Why.TheVariants as why
 use Rattle.tt_core.specs.Limits.{size_limit}
@@ -27,9 +27,9 @@ use Rattle.tt_fit_outline.specs.Scaling.{glyf_fault, phantom_points, phantom_uni
 use Rattle.tt_fit_outline.specs.Size.{FontSize, size_by}
 use Rattle.tt_fit_outline.specs.Units.{Units, units_by}
 use Rattle.tt_fit_outline.specs.declared.rules.Scaling.{Scaling}
-use Rattle.tt_fit_variation.specs.Advance.{deltas_of, point_count}
+use Rattle.tt_fit_variation.specs.Advance.{deltas_of}
 use Rattle.tt_fit_variation.specs.Ends.{EndDeltas, end_deltas, ends_in_units, fine_ends}
-use Rattle.tt_fit_variation.specs.Moved.{InstancePoint, instance_points}
+use Rattle.tt_fit_variation.specs.Moved.{instance_places, instance_points, instance_units}
 use Rattle.tt_fit_variation.specs.Records.{moved_records}
 use Rattle.tt_fit_hinting.specs.Work.{if_ok, hinted_work}
 use Rattle.tt_fit.specs.Work.{joined_work, left_in}
@@ -140,12 +140,6 @@ units_at s x_min g n v = ends_in_units (glyph_offset s.tables g) (default_units 
 abbrev pub fine_phantom : Fitter → ℕ → SimpleGlyph → VariedPoints → PhantomPoints
 fine_phantom s g d v = fine_ends (size_of s).scale (default_units s d.x_min g) (ends_of s (length d.points) v)
 
-abbrev pub units_in : List InstancePoint → List RawPoint
-units_in ps = map (λ p. p.unit) ps
-
-abbrev pub places_in : List InstancePoint → List (ℤ × ℤ × Bool)
-places_in ps = map (λ p. p.place) ps
-
 abbrev pub empty_varied : Fitter → ℕ → VariedPoints → Result Begun Fault
 empty_varied s g v = units_at s (pos 0) g 0 v >>= λ units.
     start s (scaled_phantom (size_of s) units) g >>= λ o. Ok (empty_begun s g o)
@@ -154,7 +148,7 @@ abbrev pub simple_varied : Fitter → ℕ → SimpleGlyph → VariedPoints → R
 simple_varied s g d v = units_at s d.x_min g (length d.points) v >>= λ units.
     simple_start s (fine_phantom s g d v) g d.code >>= λ o.
     instance_points (size_of s) (glyph_offset s.tables g) d.points v.xs v.ys >>= λ ps.
-    Ok (simple_begun s g d (units_in ps) units (outline_in_place (places_in ps) d.ends o))
+    Ok (simple_begun s g d (instance_units ps) units (outline_in_place (instance_places ps) d.ends o))
 
 abbrev pub composite_varied : Fitter → ℕ → CompositeGlyph → VariedPoints → Result Begun Fault
 composite_varied s g d v = units_at s d.x_min g (length d.records) v >>= λ units.
