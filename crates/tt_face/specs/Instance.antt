@@ -30,11 +30,11 @@ pub record Asked : Type 0 where
   pub named : Option Named
   pub axes : List AxisValue
 
--- the instances whose names are told of a face: the first 256 (profile)
+-- the instances that a list of faces has: the first 256 (profile)
 abbrev pub named_count : List ℕ → ℕ
 named_count fvar = min 256 (instance_count fvar)
 
--- whether the name of instance k, as it is told, is this one
+-- whether the name of instance k, as a list of faces has it, is this one
 abbrev pub has_name : Directory → List ℕ → List ℕ → ℕ → Bool
 has_name d fvar name k = bytes_eq (told_text (string_of (named_instance fvar k).name (table_of d name_tag))) name
 

@@ -64,3 +64,9 @@ one_of_two : instance_points (size_by scaling.Exact 16 256) 22 (record { x = pos
     ≡ Ok (record { unit = record { x = pos 8; y = pos 9; on = true }; place = (pos 32, pos 36, true) } ∷ [])
 unfolding instance_point moved_coordinate
 one_of_two = refl
+
+-- 192 and 128 units moved by 34/64 and by -24/64, with 18.75 64ths of a pixel a unit: 3609.96 and 2392.97
+parts_of_a_unit : map (moved_coordinate (size_by scaling.Rounded 300 1024) 22) (by (pos 192) (pos 34405) ∷ by (pos 128) (negsuc 24574) ∷ [])
+    ≡ Ok (pos 193, pos 3610) ∷ Ok (pos 128, pos 2393) ∷ []
+unfolding moved_coordinate
+parts_of_a_unit = refl
