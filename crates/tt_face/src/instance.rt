@@ -106,12 +106,15 @@ impl<'a> FaceInstance<'a> {
     }
 }
 
-/// The number of the first instance with a name.
+/// The number of the first instance with a name. The empty text is none's name.
 #[tactic(auto, using(tt_core::specs::Search::first_from_next, tt_core::specs::Search::first_from_here))]
 fn first_with_name(dir: &Dir, fvar: &Fvar, name: &[u8]) -> Option<usize>
     ensures exact { result ≡ first_with_name dir.now fvar.now name.now }
     ensures bound { IfSome result (λ k. k ≤ 256) }
 {
+    if name.is_empty() {
+        return None;
+    }
     let count = LISTED_INSTANCES.min(fvar.instance_count());
     for k in 0..count {
         if is_told(string_of(dir, fvar.instance(k).name), name) {
