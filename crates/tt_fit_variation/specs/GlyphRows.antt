@@ -1,6 +1,6 @@
 -- Worked values: glyphs at an instance, from the bytes of gvar to pixels. FreeType 2.12.1 was asked for the same glyphs. The
 -- em has 1,024 units; the square has the corners (64, 0) and (192, 128), and an advance of 256.
-use Rattle.std.specs.Prelude.{◌≡◌, refl, ℕ, ℤ, Bool, true, false, pos, negsuc, List, [], ◌∷◌, length, map, Result, Ok, Err}
+use Rattle.std.specs.Prelude.{◌≡◌, refl, ℕ, ℤ, Bool, true, false, pos, List, [], ◌∷◌, Result, Ok, Err}
 use Rattle.tt_core.specs.Faults.{Fault}
 use Rattle.tt_core.specs.Outcomes.{◌>>=◌}
 use Rattle.tt_axes.specs.Shares.{share_of_tuple_axis}
@@ -21,7 +21,7 @@ use Rattle.tt_fit_outline.specs.Size.{FontSize, size_by}
 use Rattle.tt_glyf.specs.declared.raw.RawPoint.{RawPoint}
 use Rattle.tt_fit_variation.specs.Ends.{advance_by_ends, end_deltas, ends_in_units, fine_ends}
 use Rattle.tt_fit_variation.specs.Glyph.{composite_deltas, simple_deltas}
-use Rattle.tt_fit_variation.specs.Moved.{InstancePoint, instance_point, instance_points, moved_coordinate}
+use Rattle.tt_fit_variation.specs.Moved.{instance_places, instance_point, instance_points, moved_coordinate}
 
 abbrev on_curve : ℤ → ℤ → RawPoint
 on_curve x y = record { x = x; y = y; on = true }
@@ -36,13 +36,10 @@ ends_to right = record { left = (pos 0, pos 0); right = (right, pos 0); ascent =
 abbrev of_one_axis : List ℕ → Gvar
 of_one_axis table = record { table = table; axes = 1 }
 
-abbrev places : List InstancePoint → List (ℤ × ℤ × Bool)
-places ps = map (λ p. p.place) ps
-
 -- the points and the phantom points of a simple glyph 1 that begins at 0
 abbrev square_at : FontSize → List ℕ → ℤ → Result (List (ℤ × ℤ × Bool) × PhantomPoints) Fault
 square_at z gvar c = simple_deltas (of_one_axis gvar) (c ∷ []) 1 square (3 ∷ []) >>= λ v.
-    instance_points z 0 square v.xs v.ys >>= λ ps. Ok (places ps, fine_ends z.scale (ends_to (pos 256)) (end_deltas false 4 v))
+    instance_points z 0 square v.xs v.ys >>= λ ps. Ok (instance_places ps, fine_ends z.scale (ends_to (pos 256)) (end_deltas false 4 v))
 
 -- at the axis' end the right side and the advance move by 7 units, and the upper side by -5
 abbrev by_7_and_5 : List ℕ

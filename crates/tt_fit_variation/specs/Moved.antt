@@ -44,6 +44,13 @@ with_deltas (p ∷ ps) (x ∷ xs) (y ∷ ys) = record { x = x; y = y; on = p.on 
 abbrev pub instance_points : FontSize → ℕ → List RawPoint → List Varied → List Varied → Result (List InstancePoint) Fault
 instance_points z at points xs ys = each (instance_point z at) (with_deltas points xs ys)
 
+-- the points in 26.6 pixels, and in whole font units
+abbrev pub instance_places : List InstancePoint → List (ℤ × ℤ × Bool)
+instance_places ps = map (λ p. p.place) ps
+
+abbrev pub instance_units : List InstancePoint → List RawPoint
+instance_units ps = map (λ p. p.unit) ps
+
 -- worked values: four 64ths of a pixel a unit; 10 units and a half, a half less, and past the int16 at both ends
 abbrev by : ℤ → ℤ → Varied
 by at delta = record { at = at; delta = delta }
