@@ -5,8 +5,7 @@ use Rattle.tt_core.specs.Outcomes.{◌>>=◌}
 use Rattle.tt_deltas.specs.declared.varied.Varied.{Varied}
 use Rattle.tt_glyf.specs.declared.raw.RawPoint.{RawPoint}
 use Rattle.tt_glyf.specs.declared.raw.Record.{Record}
-use Rattle.tt_fit_variation.specs.declared.varied_point.VariedPoint.{VariedPoint}
-use Rattle.tt_fit_variation.specs.Moved.{with_deltas}
+use Rattle.tt_fit_variation.specs.Moved.{VariedPoint, with_deltas}
 use Rattle.tt_fit_variation.specs.Records.{moved_record, moved_records}
 
 pub points-more : (ps : List RawPoint) (xs ys : List Varied) (i : ℕ) (p : RawPoint) (x y : Varied) → i < length ps → i < length xs → i < length ys
@@ -21,7 +20,7 @@ points-more ps xs ys i p x y a b c =
 pub records-more : (rs : List Record) (xs ys : List Varied) (i : ℕ) (r : Record) (x y : Varied) → i < length rs → i < length xs → i < length ys
     → moved_records (drop i rs) (drop i xs) (drop i ys)
     ≡ (moved_record (get_or rs i r) (get_or xs i x) (get_or ys i y) >>= λ (moved : Record).
-      moved_records (drop (i + 1) rs) (drop (i + 1) xs) (drop (i + 1) ys) >>= λ (others : List Record). Ok (moved ∷ others))
+    moved_records (drop (i + 1) rs) (drop (i + 1) xs) (drop (i + 1) ys) >>= λ (others : List Record). Ok (moved ∷ others))
 records-more rs xs ys i r x y a b c =
     let first : drop i rs ≡ get_or rs i r ∷ drop (i + 1) rs = rw add-one (drop-cons rs i r a) in
     let second : drop i xs ≡ get_or xs i x ∷ drop (i + 1) xs = rw add-one (drop-cons xs i x b) in

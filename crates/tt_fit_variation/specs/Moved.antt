@@ -9,7 +9,6 @@ use Rattle.tt_fit_outline.specs.declared.rules.Scaling.TheVariants as scaling
 use Rattle.tt_fit_outline.specs.Scaling.{coordinate_fault, is_coordinate}
 use Rattle.tt_fit_outline.specs.Size.{FontSize, size_by}
 use Rattle.tt_glyf.specs.declared.raw.RawPoint.{RawPoint}
-use Rattle.tt_fit_variation.specs.declared.varied_point.VariedPoint.{VariedPoint}
 use Rattle.tt_fit_variation.specs.Fine.{fine_scaled}
 
 -- whether a coordinate is an int16
@@ -29,6 +28,12 @@ pub record InstancePoint : Type 0 where
 
 abbrev pub point_of : Bool → ℤ × ℤ → ℤ × ℤ → InstancePoint
 point_of on x y = record { unit = record { x = x.0; y = y.0; on = on }; place = (x.1, y.1, on) }
+
+-- a point with the deltas of its coordinates
+pub record VariedPoint : Type 0 where
+  pub x : Varied
+  pub y : Varied
+  pub on : Bool
 
 unfoldable pub instance_point : FontSize → ℕ → VariedPoint → Result InstancePoint Fault
 instance_point z at p = moved_coordinate z at p.x >>= λ x. moved_coordinate z at p.y >>= λ y. Ok (point_of p.on x y)

@@ -6,7 +6,7 @@ ghost use Rattle.tt_deltas.specs.Along.{IsWithin};
 ghost use Rattle.tt_fit_outline.specs.Outline.{IsPoint};
 ghost use Rattle.tt_fit_outline.specs.Views.{size_view};
 ghost use Rattle.tt_fit_variation.specs.Moved.{instance_places, instance_point, instance_points, instance_units, with_deltas};
-ghost use Rattle.tt_fit_variation.specs.Views.{point_view, points_view};
+ghost use Rattle.tt_fit_variation.specs.Views.{point_view, points_view, varied_points_view, varied_view};
 
 use crate::coordinate::moved_coordinate;
 use crate::varied_point::VariedPoint;
@@ -35,7 +35,7 @@ fn with_deltas(
     requires ys { length points.now ≤ length ys.now }
     requires x_near { All (IsWithin (2 ^ 46)) xs.now }
     requires y_near { All (IsWithin (2 ^ 46)) ys.now }
-    ensures exact { IfOk result (λ v. v.items ≡ with_deltas points.now xs.now ys.now) }
+    ensures exact { IfOk result (λ v. varied_points_view v.items ≡ with_deltas points.now xs.now ys.now) }
     ensures count { IfOk result (λ v. length v.items ≡ length points.now) }
 {
     let mut varied = Vec::with_capacity(alloc, points.len())?;
@@ -52,7 +52,7 @@ fn with_deltas(
 /// A point at an instance. Error: CoordRange, at this offset in glyf.
 #[tactic(auto, unfolding(crate::specs::Moved::instance_point))]
 fn instance_point(size: FontSize, at: u32, point: VariedPoint) -> Result<InstancePoint, Fault>
-    ensures exact { Gives point_view result (instance_point (size_view size) at point) }
+    ensures exact { Gives point_view result (instance_point (size_view size) at (varied_view point)) }
 {
     let x = moved_coordinate(size, at, point.x)?;
     let y = moved_coordinate(size, at, point.y)?;
@@ -108,10 +108,7 @@ pub fn instance_places(
 }
 
 /// The points in whole font units.
-pub fn instance_units(
-    alloc: Global,
-    points: &[InstancePoint],
-) -> Result<Vec<RawPoint>, AllocError>
+pub fn instance_units(alloc: Global, points: &[InstancePoint]) -> Result<Vec<RawPoint>, AllocError>
     ensures exact { IfOk result (λ v. v.items ≡ instance_units (points_view points.now)) }
     ensures count { IfOk result (λ v. length v.items ≡ length points.now) }
 {
