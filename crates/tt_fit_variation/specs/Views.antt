@@ -4,21 +4,14 @@ use Rattle.tt_deltas.specs.Glyphs.{VariedPoints}
 use Rattle.tt_fit_variation.specs.declared.end.EndDeltas as deltas
 use Rattle.tt_fit_variation.specs.declared.varied_glyph.GlyphDeltas as glyph
 use Rattle.tt_fit_variation.specs.declared.points.InstancePoint as point
-use Rattle.tt_fit_variation.specs.declared.varied_point.VariedPoint as varied
 use Rattle.tt_fit_variation.specs.Ends.{EndDeltas}
-use Rattle.tt_fit_variation.specs.Moved.{InstancePoint, VariedPoint}
+use Rattle.tt_fit_variation.specs.Moved.{InstancePoint}
 
 abbrev pub point_view : point.InstancePoint → InstancePoint
 point_view p = record { unit = p.unit; place = p.place }
 
 abbrev pub points_view : List point.InstancePoint → List InstancePoint
 points_view ps = map point_view ps
-
-abbrev pub varied_view : varied.VariedPoint → VariedPoint
-varied_view p = record { x = p.x; y = p.y; on = p.on }
-
-abbrev pub varied_points_view : List varied.VariedPoint → List VariedPoint
-varied_points_view ps = map varied_view ps
 
 abbrev pub deltas_view : deltas.EndDeltas → EndDeltas
 deltas_view d = record { left = d.left; right = d.right; ascent = d.ascent; descent = d.descent }
