@@ -6,7 +6,7 @@ use Rattle.std.proofs.lemmas.Bool.Decides.{nat_tests}
 use Rattle.std.proofs.lemmas.Fmt.{decimal_by_steps, decimal_nonempty, length-decimal-le}
 use Rattle.std.proofs.lemmas.Int.{ints}
 use Rattle.tt_core.specs.Cutting.{after, before}
-use Rattle.tt_axes.specs.AxisWords.{by_digits, digit_value, fraction_of, unsigned_value, value_of, with_digit, with_digits}
+use Rattle.tt_axes.specs.AxisWords.{by_digits, digit_value, fixed_by, fraction_of, unsigned_value, value_of, with_digit, with_digits}
 use Rattle.tt_axes.specs.Shares.{portion}
 use Rattle.tt_axes.specs.ShownValues.{fraction_digits, hundred_thousandths, shown_fraction, shown_parts, shown_value, ValuesAreRead}
 use Rattle.tt_axes.proofs.ShownParts.{parts-read}
@@ -166,6 +166,24 @@ fraction-is f some small =
 below-limit : (w : ℕ) → w < 32768 → nat_lt w 32768 ≡ true
 below-limit w small = grind (arith, nat_tests)
 
+fixed : (w f : ℕ) → w < 32768 → fixed_by (Some w) (Some f) ≡ Some (portion 65536 (100000 * w + f) 100000)
+fixed w f small = rw (below-limit w small) refl
+
+with-fraction : (ds fs : List ℕ) (w f : ℕ) → AreDigits ds → by_digits ds ≡ Some w → fraction_of (Some fs) ≡ Some f → w < 32768
+    → unsigned_value (ds ++ 46 ∷ fs) ≡ Some (portion 65536 (100000 * w + f) 100000)
+with-fraction ds fs w f all value fraction small =
+    ap₂ (λ (a : List ℕ) (b : Option (List ℕ)). fixed_by (by_digits a) (fraction_of b)) (before-point ds fs all) (after-point ds fs all)
+    ∙ (ap₂ fixed_by value fraction ∙ fixed w f small)
+
+without-fraction : (ds : List ℕ) (w : ℕ) → AreDigits ds → by_digits ds ≡ Some w → w < 32768
+    → unsigned_value (ds ++ []) ≡ Some (portion 65536 (100000 * w + 0) 100000)
+without-fraction ds w all value small =
+    ap₂ (λ (a : List ℕ) (b : Option (List ℕ)). fixed_by (by_digits a) (fraction_of b)) (before-end ds all) (no-after ds all)
+    ∙ (ap (λ (a : Option ℕ). fixed_by a (Some 0)) value ∙ fixed w 0 small)
+
+shown-some : (f : ℕ) → (f == 0) ≡ false → shown_fraction f ≡ 46 ∷ fraction_digits f 5
+shown-some f some = rw some refl
+
 parts-shown : (n f : ℕ) → n % 100000 ≡ f → n < 3276800000 → unsigned_value (decimal (n / 100000) ++ shown_fraction f) ≡ Some (portion 65536 n 100000)
 parts-shown n f is small =
     let w = n / 100000 in
@@ -176,19 +194,13 @@ parts-shown n f is small =
     elim (cases_eq f 0) [
       | inl zero_is ↦
           let same_0 : 100000 * w + 0 ≡ n = omega (arith, same, zero_is) in
-          rw (zero_is, before-end (decimal w) all, no-after (decimal w) all, value, below-limit w below)
-          (ap (λ m. Some (portion 65536 m 100000)) same_0)
+          ap (λ (g : ℕ). unsigned_value (decimal (n / 100000) ++ shown_fraction g)) zero_is
+          ∙ (without-fraction (decimal w) w all value below ∙ ap (λ (m : ℕ). Some (portion 65536 m 100000)) same_0)
       | inr other ↦
           let some = not-zero f other in
-          rw (
-            some,
-            before-point (decimal w) (fraction_digits f 5) all,
-            after-point (decimal w) (fraction_digits f 5) all,
-            value,
-            fraction-is f some (omega (arith, is)),
-            below-limit w below,
-          )
-          (ap (λ m. Some (portion 65536 m 100000)) same)
+          ap (λ (t : List ℕ). unsigned_value (decimal (n / 100000) ++ t)) (shown-some f some)
+          ∙ (with-fraction (decimal w) (fraction_digits f 5) w f all value (fraction-is f some (omega (arith, is))) below
+          ∙ ap (λ (m : ℕ). Some (portion 65536 m 100000)) same)
     ]
 
 magnitude-read : (n : ℕ) → n < 2 ^ 31 → unsigned_value (shown_parts (hundred_thousandths n)) ≡ Some n
