@@ -1,2 +1,2 @@
-mod Near
-mod Zipped
+pub mod Near
+pub mod Zipped
