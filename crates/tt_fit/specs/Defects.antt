@@ -19,7 +19,7 @@ use Rattle.tt_glyf.specs.Loca.{glyph_offset}
 use Rattle.tt_glyf.specs.Raw.{Raw, empty, simple, composite}
 use Rattle.tt_fit_hinting.specs.machine.Parts.{Parts}
 use Rattle.tt_fit_outline.specs.Component.{shift_of, landed}
-use Rattle.tt_fit.specs.Fitting.{Begun, Fitter, size_of, start, glyph_grid, joined, default_phantom, default_units, ends_of, units_at, fine_phantom, begun, added, outline_at, glyph_fitter}
+use Rattle.tt_fit.specs.Fitting.{Begun, Fitter, size_of, start, glyph_grid, joined, default_phantom, default_units, ends_of, units_at, fine_phantom, begun_glyph, added, outline_at, glyph_fitter}
 use Rattle.tt_fit_outline.specs.declared.grid.Grid.{Grid}
 use Rattle.tt_fit_outline.specs.declared.grid.Grid.TheVariants as rounding
 use Rattle.tt_fit_hinting.specs.GlyphZone.{GlyphProgram, program_in_glyf, on_grid, on_grid_at}
@@ -168,20 +168,21 @@ IsOffsetsDefect records xs ys fault =
     (i : ℕ) × (r : Record) × (x : Varied) × (y : Varied) × (slice_get records i ≡ Some r)
     × (slice_get xs i ≡ Some x) × (slice_get ys i ≡ Some y) × IsOffsetDefect r x y fault
 
+-- a composite or an empty glyph without points, with its deltas
+abbrev pub IsWholeStartDefect : Fitter → ℤ → ℕ → ℕ → VariedPoints → Fault → Type 0
+IsWholeStartDefect s x_min g n v fault =
+    IsUnitsDefect (glyph_offset s.tables g) (default_units s x_min g) (ends_of s n v) fault
+    ⊎ IsOkAnd (units_at s x_min g n v) (λ units. IsStartDefect s (scaled_phantom (size_of s) units) g fault)
+
 -- a glyph with its deltas: a phantom point, a point or an offset is out of range
 abbrev pub IsVariedDefect : Fitter → ℕ → Raw → VariedPoints → Fault → Type 0
-IsVariedDefect s g empty v fault =
-    IsUnitsDefect (glyph_offset s.tables g) (default_units s (pos 0) g) (ends_of s 0 v) fault
-    ⊎ IsOkAnd (units_at s (pos 0) g 0 v) (λ units. IsStartDefect s (scaled_phantom (size_of s) units) g fault)
+IsVariedDefect s g empty v fault = IsWholeStartDefect s (pos 0) g 0 v fault
 IsVariedDefect s g (simple d) v fault =
     IsUnitsDefect (glyph_offset s.tables g) (default_units s d.x_min g) (ends_of s (length d.points) v) fault
     ⊎ IsSimpleStartDefect s (fine_phantom s g d v) g d.code fault
     ⊎ IsPointDefect (size_of s) (glyph_offset s.tables g) d.points v.xs v.ys fault
 IsVariedDefect s g (composite d) v fault =
-    IsUnitsDefect (glyph_offset s.tables g) (default_units s d.x_min g) (ends_of s (length d.records) v) fault
-    ⊎ IsOkAnd (units_at s d.x_min g (length d.records) v)
-    (λ units. IsStartDefect s (scaled_phantom (size_of s) units) g fault)
-    ⊎ IsOffsetsDefect d.records v.xs v.ys fault
+    IsWholeStartDefect s d.x_min g (length d.records) v fault ⊎ IsOffsetsDefect d.records v.xs v.ys fault
 
 -- a glyph cannot be begun; at an instance its deltas cannot be read, or it is out of range with them
 abbrev pub IsBegunDefectBy : Option FaceInstance → Fitter → ℕ → Raw → Fault → Type 0
@@ -204,7 +205,7 @@ IsFinishingDefect s add IsOne b fault =
 abbrev pub IsMakingDefect : Fitter → (Record → Outline → Result Outline Fault)
     → (Record → Result Outline Fault → Fault → Type 0) → ℕ → Raw → Fault → Type 0
 IsMakingDefect s add IsOne g raw fault =
-    IsBegunDefect s g raw fault ⊎ IsOkAnd (begun s g raw) (λ b. IsFinishingDefect s add IsOne b fault)
+    IsBegunDefect s g raw fault ⊎ IsOkAnd (begun_glyph s g raw) (λ b. IsFinishingDefect s add IsOne b fault)
 
 -- a glyph cannot be read, or has no outline
 abbrev pub IsDefectBy : Fitter → (Record → Outline → Result Outline Fault)
