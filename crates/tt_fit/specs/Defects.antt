@@ -1,6 +1,6 @@
 -- The possible defects of a glyph's outline at a size, each with its fault, whatever the order of the tests. OpenType,
 -- "The 'glyf' table", "Composite Glyph Description"; the limits are profile.
-use Rattle.std.specs.Prelude.{◌≡◌, ℕ, zero, suc, ◌+◌, ◌<◌, Bool, true, false, ℤ, pos, negsuc, unsigned_abs, ◌+ℤ◌, ◌<ℤ◌, ◌≤ℤ◌, List, [], length, take, Option, Some, None, Result, Err, IsOkAnd, ◌⊎◌}
+use Rattle.std.specs.Prelude.{◌≡◌, ℕ, zero, suc, ◌+◌, ◌<◌, Bool, true, false, ℤ, pos, unsigned_abs, ◌+ℤ◌, ◌<ℤ◌, ◌≤ℤ◌, List, [], length, take, Option, Some, None, Result, Err, IsOkAnd, ◌⊎◌}
 use Rattle.std.specs.List.{slice_get}
 use Rattle.tt_core.specs.Faults.{Fault}
 use Rattle.tt_core.specs.declared.fault.Why.TheVariants as why
@@ -31,6 +31,7 @@ use Rattle.tt_fit_outline.specs.Size.{FontSize, scale}
 use Rattle.tt_fit_variation.specs.Advance.{deltas_of}
 use Rattle.tt_fit_variation.specs.Ends.{EndDeltas, end_limit, moved_ends}
 use Rattle.tt_fit_variation.specs.Fine.{fine_scaled}
+use Rattle.tt_fit_variation.specs.Moved.{is_unit}
 
 -- a coordinate is past the limit
 abbrev pub PassesLimit : ℤ → Type 0
@@ -143,7 +144,7 @@ IsUnitsDefect at p d fault =
 
 -- a number is no int16
 abbrev pub LeavesUnits : ℤ → Type 0
-LeavesUnits v = (v <ℤ negsuc 32767) ⊎ (pos 32767 <ℤ v)
+LeavesUnits v = is_unit v ≡ false
 
 -- a coordinate in font units is no int16, or lies past the limit when it is scaled
 abbrev pub IsCoordinateDefect : FontSize → Varied → Type 0
