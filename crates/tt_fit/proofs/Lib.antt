@@ -1,3 +1,4 @@
+pub mod Beginning
 pub mod Counts
 pub mod DeltaCounts
 pub mod Hintings
