@@ -16,7 +16,7 @@ use Rattle.tt_tuples.specs.declared.deltas.DeltaSize.TheVariants as size
 use Rattle.tt_tuples.specs.declared.source.TupleTable.{TupleTable}
 use Rattle.tt_tuples.specs.declared.source.TupleTable.TheVariants as table
 use Rattle.tt_tuples.specs.Headers.{TupleHeader, header_at, header_place, peak_at, shared_peak, sides_at, taken, tuple_header_at}
-use Rattle.tt_tuples.specs.PointNumbers.{NumberRun, TuplePoints, as_listed, count_at, difference_in, listed_at, next_number, no_numbers, number_in, number_run, number_run_at, number_within, numbers_at, numbers_from, points_at}
+use Rattle.tt_tuples.specs.PointNumbers.{NumberRun, TuplePoints, listed, as_listed, count_at, difference_in, listed_at, next_number, no_numbers, number_in, number_run, number_run_at, number_within, numbers_at, numbers_from, points_at}
 use Rattle.tt_tuples.specs.Sources.{Source, Tuple}
 use Rattle.tt_tuples.specs.Tuples.{second_deltas, shared_points_of, tuple_at, tuple_before, tuple_points, tuples_from, tuples_of}
 
@@ -30,9 +30,9 @@ done y f was = absurd cc
 at-fault : {X : Type 0} (d : TupleStore) (at : ℕ) → Breaks {X = X} (Err (broken d at))
 at-fault d at f was = let same : broken d at ≡ f = cc in rw (← same) refl
 
-then : {X Y : Type 0} (x : Result X Fault) (k : X → Result Y Fault) → Breaks x → ((y : X) → Breaks (k y))
+chain : {X Y : Type 0} (x : Result X Fault) (k : X → Result Y Fault) → Breaks x → ((y : X) → Breaks (k y))
     → Breaks (x >>= k)
-then x k first rest f was = elim (was-err x k f was) [
+chain x k first rest f was = elim (was-err x k f was) [
   | inl here ↦ first f here
   | inr later ↦ rest later.value f later.rest
 ]
@@ -65,7 +65,7 @@ slice d at n = either _ _ _ (done _) (at-fault d _)
 -- point numbers
 run-at : (d : TupleStore) (at : ℕ) → Breaks (number_run_at d at)
 unfolding number_run_at
-run-at d at = then (byte_in d at) _ (byte d at) (λ c. done _)
+run-at d at = chain (byte_in d at) _ (byte d at) (λ c. done _)
 
 run : (d : TupleStore) (r : NumberRun) → Breaks (number_run d r)
 run d r = either (r.left == 0) (number_run_at d r.at) (Ok r) (run-at d r.at) (done r)
@@ -78,62 +78,62 @@ number-within d r before n = either _ _ _ (done n) (at-fault d r.at)
 
 next : (d : TupleStore) (r : NumberRun) (before : Option ℕ) → Breaks (next_number d r before)
 unfolding next_number
-next d r before = then (number_run d r) _ (run d r)
-    (λ run. then (number_in d run before) _
-    (then (difference_in d run) _ (difference d run) (λ by. number-within d run before _)) (λ n. done _))
+next d r before = chain (number_run d r) _ (run d r)
+    (λ run. chain (number_in d run before) _
+    (chain (difference_in d run) _ (difference d run) (λ by. number-within d run before _)) (λ n. done _))
 
 numbers : (d : TupleStore) (count : ℕ) (r : NumberRun) (before : Option ℕ) → Breaks (numbers_from d count r before)
 unfolding numbers_from
 numbers d zero r before = done _
-numbers d (suc count) r before = then (next_number d r before) _ (next d r before)
+numbers d (suc count) r before = chain (next_number d r before) _ (next d r before)
     (λ n. afterwards (n.number ∷ []) (numbers_from d count n.run (Some n.number)) (numbers d count n.run (Some n.number)))
 
 counts : (d : TupleStore) (at : ℕ) → Breaks (count_at d at)
 unfolding count_at
-counts d at = then (byte_in d at) _ (byte d at)
-    (λ c. either _ _ _ (done _) (then (byte_in d (at + 1)) _ (byte d (at + 1)) (λ low. done _)))
+counts d at = chain (byte_in d at) _ (byte d at)
+    (λ c. either _ _ _ (done _) (chain (byte_in d (at + 1)) _ (byte d (at + 1)) (λ low. done _)))
 
 as-listed : (x : Result (Read (List ℕ)) Fault) → Breaks x → Breaks (as_listed x)
 as-listed (Ok read) of_x f was = absurd cc
 as-listed (Err e) of_x f was = let same : e ≡ f = cc in of_x f (rw same refl)
 
-listed : (d : TupleStore) (at points : ℕ) → Breaks (listed_at d at points)
+listed-points : (d : TupleStore) (at points : ℕ) → Breaks (listed_at d at points)
 unfolding listed_at
-listed d at points = then (count_at d at) _ (counts d at)
+listed-points d at points = chain (count_at d at) _ (counts d at)
     (λ count. either _ _ _ (at-fault d at)
     (as-listed (numbers_at d count.next count.value) (numbers d count.value (no_numbers count.next) None)))
 
 points : (d : TupleStore) (at n : ℕ) → Breaks (points_at d at n)
 unfolding points_at
-points d at n = then (byte_in d at) _ (byte d at) (λ c. either (c == 0) _ _ (done _) (listed d at n))
+points d at n = chain (byte_in d at) _ (byte d at) (λ c. either (c == 0) _ _ (done _) (listed-points d at n))
 
 -- deltas
 delta-run-at : (d : TupleStore) (at count : ℕ) → Breaks (delta_run_at d at count)
 unfolding delta_run_at
-delta-run-at d at count = then (byte_in d at) _ (byte d at) (λ c. either _ _ _ (at-fault d at) (done _))
+delta-run-at d at count = chain (byte_in d at) _ (byte d at) (λ c. either _ _ _ (at-fault d at) (done _))
 
 delta-run : (d : TupleStore) (r : DeltaRun) (count : ℕ) → Breaks (delta_run d r count)
 delta-run d r count = either (r.left == 0) (delta_run_at d r.at count) (Ok r) (delta-run-at d r.at count) (done r)
 
 sized : (by : DeltaSize) (d : TupleStore) (at : ℕ) → Breaks (sized_delta by d at)
 sized size.Zeros d at = done _
-sized size.Bytes d at = then (byte_in d at) _ (byte d at) (λ n. done _)
+sized size.Bytes d at = chain (byte_in d at) _ (byte d at) (λ n. done _)
 sized size.Words d at = signed d at
 
 next-delta : (d : TupleStore) (r : DeltaRun) (count : ℕ) → Breaks (next_delta d r count)
 unfolding next_delta
-next-delta d r count = then (delta_run d r count) _ (delta-run d r count)
-    (λ run. then (sized_delta run.size d run.at) _ (sized run.size d run.at) (λ delta. done _))
+next-delta d r count = chain (delta_run d r count) _ (delta-run d r count)
+    (λ run. chain (sized_delta run.size d run.at) _ (sized run.size d run.at) (λ delta. done _))
 
 deltas : (d : TupleStore) (count : ℕ) (r : DeltaRun) → Breaks (deltas_from d count r)
 unfolding deltas_from
 deltas d zero r = done _
-deltas d (suc count) r = then (next_delta d r (suc count)) _ (next-delta d r (suc count))
+deltas d (suc count) r = chain (next_delta d r (suc count)) _ (next-delta d r (suc count))
     (λ x. afterwards (x.delta ∷ []) (deltas_from d count x.run) (deltas d count x.run))
 
 -- headers
 take : (d : TupleStore) (at n : ℕ) → Breaks (taken d at n)
-take d at n = then (slice_in d at n) _ (slice d at n) (λ value. done _)
+take d at n = chain (slice_in d at n) _ (slice d at n) (λ value. done _)
 
 peak : (s : Source) (at index : ℕ) → Breaks (peak_at s at index)
 unfolding peak_at
@@ -142,20 +142,20 @@ peak s at index = either _ _ _ (take s.store _ _) (either _ _ _ (done _) (at-fau
 sides : (s : Source) (at index : ℕ) → Breaks (sides_at s at index)
 unfolding sides_at
 sides s at index = either _ _ _
-    (then (taken s.store at _) _ (take s.store at _)
-    (λ start. then (taken s.store start.next _) _ (take s.store start.next _) (λ end. done _))) (done _)
+    (chain (taken s.store at _) _ (take s.store at _)
+    (λ start. chain (taken s.store start.next _) _ (take s.store start.next _) (λ end. done _))) (done _)
 
 header : (s : Source) (at : ℕ) → Breaks (tuple_header_at s at)
 unfolding tuple_header_at
-header s at = then (word_in s.store at) _ (word s.store at)
-    (λ size. then (word_in s.store (at + 2)) _ (word s.store (at + 2))
-    (λ index. then (peak_at s at index) _ (peak s at index)
-    (λ peak. then (sides_at s peak.next index) _ (sides s peak.next index) (λ sides. done _))))
+header s at = chain (word_in s.store at) _ (word s.store at)
+    (λ size. chain (word_in s.store (at + 2)) _ (word s.store (at + 2))
+    (λ index. chain (peak_at s at index) _ (peak s at index)
+    (λ peak. chain (sides_at s peak.next index) _ (sides s peak.next index) (λ sides. done _))))
 
 store-header : (d : TupleStore) (at : ℕ) → Breaks (header_at d at)
 unfolding header_at
-store-header d at = then (word_in d at) _ (word d at)
-    (λ count. then (word_in d (at + 2)) _ (word d (at + 2)) (λ offset. either _ _ _ (at-fault d (at + 2)) (done _)))
+store-header d at = chain (word_in d at) _ (word d at)
+    (λ count. chain (word_in d (at + 2)) _ (word d (at + 2)) (λ offset. either _ _ _ (at-fault d (at + 2)) (done _)))
 
 -- tuples
 own-points : (s : Source) (shared : TuplePoints) (own : Bool) (at : ℕ) → Breaks (tuple_points s shared own at)
@@ -167,30 +167,30 @@ second table.Cvar d at count = done _
 
 tuple : (s : Source) (shared : TuplePoints) (h : TupleHeader) (at : ℕ) → Breaks (tuple_at s shared h at)
 unfolding tuple_at
-tuple s shared h at = then (tuple_points s shared h.own_points at) _ (own-points s shared h.own_points at)
-    (λ points. then (deltas_at s.store points.next _) _ (deltas s.store _ (no_deltas points.next))
-    (λ xs. then (second_deltas s.store.table s.store xs.next _) _ (second s.store.table s.store xs.next _) (λ ys. done _)))
+tuple s shared h at = chain (tuple_points s shared h.own_points at) _ (own-points s shared h.own_points at)
+    (λ points. chain (deltas_at s.store points.next _) _ (deltas s.store _ (no_deltas points.next))
+    (λ xs. chain (second_deltas s.store.table s.store xs.next _) _ (second s.store.table s.store xs.next _) (λ ys. done _)))
 
 before : (t : Tuple) (others : Result (List Tuple) Fault) → Breaks others → Breaks (tuple_before t others)
-before t others of_others = then others _ of_others (λ ts. done _)
+before t others of_others = chain others _ of_others (λ ts. done _)
 
 tuples : (s : Source) (shared : TuplePoints) (left at data_at : ℕ) → Breaks (tuples_from s shared left at data_at)
 unfolding tuples_from
 tuples s shared zero at data_at = done _
-tuples s shared (suc left) at data_at = then (tuple_header_at s at) _ (header s at)
+tuples s shared (suc left) at data_at = chain (tuple_header_at s at) _ (header s at)
     (λ h. either (h.share == 0) _ _ (tuples s shared left h.next (data_at + h.size))
-    (then (tuple_at s shared h data_at) _ (tuple s shared h data_at)
+    (chain (tuple_at s shared h data_at) _ (tuple s shared h data_at)
     (λ t. before t (tuples_from s shared left h.next (data_at + h.size))
     (tuples s shared left h.next (data_at + h.size)))))
 
 shared-points : (s : Source) (shares : Bool) (at : ℕ)
-    → Breaks (if shares then points_at s.store at s.points else Ok (record { value = Rattle.tt_tuples.specs.PointNumbers.listed []; next = at }))
+    → Breaks (if shares then points_at s.store at s.points else Ok (record { value = listed []; next = at }))
 shared-points s shares at = either shares _ _ (points s.store at s.points) (done _)
 
 all : (s : Source) → Breaks (tuples_of s)
 unfolding tuples_of shared_points_of
-all s = then (header_at s.store (header_place s.store.table)) _ (store-header s.store (header_place s.store.table))
-    (λ h. then (if h.shares_points then points_at s.store h.data_at s.points else _) _
+all s = chain (header_at s.store (header_place s.store.table)) _ (store-header s.store (header_place s.store.table))
+    (λ h. chain (if h.shares_points then points_at s.store h.data_at s.points else _) _
     (shared-points s h.shares_points h.data_at)
     (λ shared. tuples s shared.value h.tuples (header_place s.store.table + 4) shared.next))
 
@@ -202,7 +202,7 @@ entry v g = either _ _ _ (done None) (either _ _ _
 
 by-all : (ends : List ℕ) (v : VariedPoints) (x : Result (List Tuple) Fault) → Breaks x → Breaks (points_by_all ends v x)
 unfolding points_by_all
-by-all ends v x of_x = then x _ of_x (λ ts. done _)
+by-all ends v x of_x = chain x _ of_x (λ ts. done _)
 
 with-data : (gvar : Gvar) (coordinates : List ℤ) (ends : List ℕ) (v : VariedPoints) (d : Option GlyphData)
     → Breaks (varied_with gvar coordinates ends v d)
@@ -214,7 +214,7 @@ glyph : (gvar : Gvar) (g : ℕ) (coordinates : List ℤ) (ends : List ℕ) (v : 
     → Breaks (varied_glyph gvar g coordinates ends v)
 unfolding varied_glyph
 glyph gvar g coordinates ends v =
-    then (glyph_data_of gvar g) (varied_with gvar coordinates ends v) (entry gvar g) (with-data gvar coordinates ends v)
+    chain (glyph_data_of gvar g) (varied_with gvar coordinates ends v) (entry gvar g) (with-data gvar coordinates ends v)
 
 pub deltas-break : (gvar : Gvar) (coordinates : List ℤ) (g : ℕ) (d : Raw) → Breaks (deltas_of gvar coordinates g d)
 deltas-break gvar coordinates g empty = glyph gvar g coordinates [] (composite_points [])
