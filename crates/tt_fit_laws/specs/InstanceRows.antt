@@ -1,27 +1,20 @@
 -- Worked values: outlines of three glyphs at an instance, at a size. The em has 1,024 units. The outlines are FreeType
 -- 2.12.1's where it draws them (best), and worked by the definitions of the papers elsewhere.
-use Rattle.std.specs.Prelude.{◌≡◌, refl, ℕ, ℤ, pos, negsuc, true, codes, List, [], ◌∷◌, length, Option, Some, None, Result, Ok, Err}
+use Rattle.std.specs.Prelude.{◌≡◌, refl, ℕ, ℤ, pos, negsuc, true, codes, List, [], ◌∷◌, length, Some, None, Ok, Err}
 use Rattle.tt_axes.specs.Shares.{share_of_region_axis, share_of_tuple_axis}
-use Rattle.tt_core.specs.Faults.{Fault, fault_at}
+use Rattle.tt_core.specs.Faults.{fault_at}
 use Rattle.tt_core.specs.declared.fault.Why.TheVariants as why
 use Rattle.tt_deltas.specs.Along.{varied_along}
-use Rattle.tt_deltas.specs.ControlValues.{values_by_all, varied_values}
 use Rattle.tt_deltas.specs.Glyphs.{points_by_all, varied_glyph}
 use Rattle.tt_deltas.specs.Gvar as gvar
 use Rattle.tt_deltas_inference.specs.Inference.{contour, inferred}
-use Rattle.tt_face.specs.Faces.{FaceInstance}
-use Rattle.tt_face.specs.Programs.{ProgramTables}
-use Rattle.tt_fit.specs.Counting.{counted}
-use Rattle.tt_fit.specs.DeltaCounting.{deltas_asked, deltas_by, control_deltas_by}
 use Rattle.tt_fit.specs.Fallback.{never}
 use Rattle.tt_fit.specs.Fitting.{Fitter, simple_start, begun_glyph, added, fitted_outline, unfitted_fault}
-use Rattle.tt_fit.specs.Preparation.{begun_at}
 use Rattle.tt_fit.specs.declared.dropouts.DropoutsBy.TheVariants as by
-use Rattle.tt_fit.specs.declared.programs.Fit.TheVariants as fit
 use Rattle.tt_fit_hinting.specs.Hinting.{off}
 use Rattle.tt_fit_outline.specs.Component.{shift_of}
 use Rattle.tt_fit_outline.specs.Joining.{placed, appended, within_point_limit}
-use Rattle.tt_fit_outline.specs.Outline.{Outline, PhantomPoints}
+use Rattle.tt_fit_outline.specs.Outline.{PhantomPoints}
 use Rattle.tt_fit_outline.specs.Scaling.{blank, coordinate_fault, settled}
 use Rattle.tt_fit_outline.specs.declared.grid.GridRule.TheVariants as grid_rule
 use Rattle.tt_fit_outline.specs.declared.rules.Scaling.{Scaling}
@@ -36,13 +29,12 @@ use Rattle.tt_glyf.specs.Flags.{run_at, flags_from}
 use Rattle.tt_glyf.specs.GlyphData.{glyph_data_of, header_of, described}
 use Rattle.tt_glyf.specs.Loca.{glyph_bytes_of}
 use Rattle.tt_glyf.specs.Simple.{end_at, ends_from, points_within, points_of, simple_of}
-use Rattle.tt_glyf.specs.Told.{told_size, components_of}
 use Rattle.tt_metrics.specs.declared.head.LocaFormat.TheVariants.{Short}
 use Rattle.tt_metrics.specs.declared.heights.Heights.TheVariants.{Exact}
 use Rattle.tt_metrics.specs.Metrics.{Metrics}
 use Rattle.tt_tuples.specs.Bytes as bytes
 use Rattle.tt_tuples.specs.Deltas.{deltas_from, next_delta, delta_run_at}
-use Rattle.tt_tuples.specs.Headers.{header_at, tuple_count, tuple_header_at, peak_at, sides_at}
+use Rattle.tt_tuples.specs.Headers.{header_at, tuple_header_at, peak_at, sides_at}
 use Rattle.tt_tuples.specs.PointNumbers.{points_at, listed_at, count_at, numbers_from, next_number, number_run_at}
 use Rattle.tt_tuples.specs.Regions.{share_after}
 use Rattle.tt_tuples.specs.Tuples.{tuples_of, tuples_from, tuple_at, shared_points_of}
@@ -50,7 +42,7 @@ use Rattle.tt_variation_store.specs.Deltas.{fine_delta}
 use Rattle.tt_variation_store.specs.Numbers.{number}
 
 -- each glyph is 256 wide; the left side bearing is 64 for the first glyph with contours, and this for the second
-abbrev its_metrics : ℕ → Metrics
+abbrev pub its_metrics : ℕ → Metrics
 its_metrics bearing = record {
   head = record { units_per_em = 1024; loca_format = Short };
   maxp = record { glyphs = 3; twilight = 0; storage = 0 };
@@ -98,12 +90,15 @@ parts_of_a_unit : fitted_outline (its_fitter 300 scaling.Rounded (its_metrics 0)
     0x80 ∷ 0 ∷ 7 ∷ 0x81 ∷ 0x80 ∷ 1 ∷ 0xfb ∷ 0xfb ∷ 0x84 ∷ [])
     (pos 4915 ∷ [])) 1
     ≡ Ok (record {
-  points = (pos 1200, pos 0, true) ∷ (pos 1200, pos 2393, true) ∷ (pos 3610, pos 2393, true) ∷ (pos 3610, pos 0,
-      true) ∷ [];
-  ends = 4 ∷ [];
-  phantom = ends_at (pos 0) (pos 4810) (pos 4800) (pos 0);
-  scan = None;
-})
+      points = (pos 1200, pos 0, true) ∷ (pos 1200, pos 2393, true) ∷ (pos 3610, pos 2393, true) ∷ (
+        pos 3610,
+        pos 0,
+        true,
+      ) ∷ [];
+      ends = 4 ∷ [];
+      phantom = ends_at (pos 0) (pos 4810) (pos 4800) (pos 0);
+      scan = None;
+    })
 unfolding fitted_outline unfitted_fault begun_glyph glyph_data_of glyph_bytes_of header_of described
     simple_of ends_from end_at points_within points_of flags_from run_at coordinates_from coordinate_at
     within_words delta_at byte_in word_in signed_in slice_in blank ends_in_units varied_glyph
@@ -125,12 +120,15 @@ parts_of_a_unit_exactly : fitted_outline (its_fitter 300 scaling.Exact (its_metr
     0x80 ∷ 0 ∷ 7 ∷ 0x81 ∷ 0x80 ∷ 1 ∷ 0xfb ∷ 0xfb ∷ 0x84 ∷ [])
     (pos 44171 ∷ [])) 1
     ≡ Ok (record {
-  points = (pos 1200, pos 0, true) ∷ (pos 1200, pos 2337, true) ∷ (pos 3688, pos 2337, true) ∷ (pos 3688, pos 0,
-      true) ∷ [];
-  ends = 4 ∷ [];
-  phantom = ends_at (pos 0) (pos 4888) (pos 4800) (pos 0);
-  scan = None;
-})
+      points = (pos 1200, pos 0, true) ∷ (pos 1200, pos 2337, true) ∷ (pos 3688, pos 2337, true) ∷ (
+        pos 3688,
+        pos 0,
+        true,
+      ) ∷ [];
+      ends = 4 ∷ [];
+      phantom = ends_at (pos 0) (pos 4888) (pos 4800) (pos 0);
+      scan = None;
+    })
 unfolding fitted_outline unfitted_fault begun_glyph glyph_data_of glyph_bytes_of header_of described
     simple_of ends_from end_at points_within points_of flags_from run_at coordinates_from coordinate_at
     within_words delta_at byte_in word_in signed_in slice_in blank ends_in_units varied_glyph
@@ -153,12 +151,16 @@ thirds : fitted_outline (its_fitter 16 scaling.Rounded (its_metrics 0)
     ∷ 1 ∷ 0x80 ∷ 0 ∷ 1 ∷ [])
     (pos 65536 ∷ [])) 1
     ≡ Ok (record {
-  points = (pos 64, pos 0, true) ∷ (pos 96, pos 33, true) ∷ (pos 64, pos 65, true) ∷ (pos 129, pos 97, true) ∷ (pos
-      193, pos 65, true) ∷ (pos 161, pos 33, true) ∷ (pos 193, pos 0, true) ∷ (pos 129, pos 0, true) ∷ [];
-  ends = 8 ∷ [];
-  phantom = ends_at (pos 0) (pos 256) (pos 256) (pos 0);
-  scan = None;
-})
+      points = (pos 64, pos 0, true) ∷ (pos 96, pos 33, true) ∷ (pos 64, pos 65, true) ∷ (pos 129, pos 97, true) ∷ (
+        pos
+            193,
+        pos 65,
+        true,
+      ) ∷ (pos 161, pos 33, true) ∷ (pos 193, pos 0, true) ∷ (pos 129, pos 0, true) ∷ [];
+      ends = 8 ∷ [];
+      phantom = ends_at (pos 0) (pos 256) (pos 256) (pos 0);
+      scan = None;
+    })
 unfolding fitted_outline unfitted_fault begun_glyph glyph_data_of glyph_bytes_of header_of described
     simple_of ends_from end_at points_within points_of flags_from run_at coordinates_from coordinate_at
     within_words delta_at byte_in word_in signed_in slice_in blank ends_in_units varied_glyph
@@ -180,12 +182,15 @@ offset_by_half_a_unit : fitted_outline (its_fitter 300 scaling.Rounded (its_metr
     ∷ 0 ∷ [])
     (pos 32768 ∷ [])) 2
     ≡ Ok (record {
-  points = (pos 2100, negsuc 280, true) ∷ (pos 2100, pos 2119, true) ∷ (pos 4800, pos 2119, true) ∷ (pos 4800,
-      negsuc 280, true) ∷ [];
-  ends = 4 ∷ [];
-  phantom = ends_at (pos 0) (pos 4800) (pos 4800) (pos 0);
-  scan = None;
-})
+      points = (pos 2100, negsuc 280, true) ∷ (pos 2100, pos 2119, true) ∷ (pos 4800, pos 2119, true) ∷ (
+        pos 4800,
+        negsuc 280,
+        true,
+      ) ∷ [];
+      ends = 4 ∷ [];
+      phantom = ends_at (pos 0) (pos 4800) (pos 4800) (pos 0);
+      scan = None;
+    })
 unfolding fitted_outline unfitted_fault begun_glyph glyph_data_of glyph_bytes_of header_of described
     simple_of ends_from end_at points_within points_of flags_from run_at coordinates_from coordinate_at
     within_words delta_at byte_in word_in signed_in slice_in blank ends_in_units varied_glyph
@@ -209,13 +214,16 @@ by_points : fitted_outline (its_fitter 16 scaling.Rounded (its_metrics 64)
     ∷ 0x40 ∷ 0x83 ∷ 0 ∷ [])
     (pos 65536 ∷ [])) 2
     ≡ Ok (record {
-  points = (pos 64, pos 0, true) ∷ (pos 64, pos 128, true) ∷ (pos 224, pos 128, true) ∷ (pos 224, pos 0, true) ∷
-      (pos 224, pos 128, true) ∷ (pos 224, pos 256, true) ∷ (pos 384, pos 256, true) ∷ (pos 384, pos 128,
-      true) ∷ [];
-  ends = 4 ∷ 8 ∷ [];
-  phantom = ends_at (pos 0) (pos 256) (pos 256) (pos 0);
-  scan = None;
-})
+      points = (pos 64, pos 0, true) ∷ (pos 64, pos 128, true) ∷ (pos 224, pos 128, true) ∷ (pos 224, pos 0, true) ∷
+          (pos 224, pos 128, true) ∷ (pos 224, pos 256, true) ∷ (pos 384, pos 256, true) ∷ (
+            pos 384,
+            pos 128,
+            true,
+          ) ∷ [];
+      ends = 4 ∷ 8 ∷ [];
+      phantom = ends_at (pos 0) (pos 256) (pos 256) (pos 0);
+      scan = None;
+    })
 unfolding fitted_outline unfitted_fault begun_glyph glyph_data_of glyph_bytes_of header_of described
     simple_of ends_from end_at points_within points_of flags_from run_at coordinates_from coordinate_at
     within_words delta_at byte_in word_in signed_in slice_in blank ends_in_units varied_glyph
@@ -238,11 +246,11 @@ both_ends : fitted_outline (its_fitter 16 scaling.Rounded (its_metrics 0)
     ∷ 0x10 ∷ 0x40 ∷ 0x81 ∷ 0x87 ∷ 0 ∷ [])
     (pos 65536 ∷ [])) 1
     ≡ Ok (record {
-  points = (pos 64, pos 0, true) ∷ (pos 64, pos 128, true) ∷ (pos 256, pos 128, true) ∷ (pos 256, pos 0, true) ∷ [];
-  ends = 4 ∷ [];
-  phantom = ends_at (pos 16) (pos 320) (pos 256) (pos 0);
-  scan = None;
-})
+      points = (pos 64, pos 0, true) ∷ (pos 64, pos 128, true) ∷ (pos 256, pos 128, true) ∷ (pos 256, pos 0, true) ∷ [];
+      ends = 4 ∷ [];
+      phantom = ends_at (pos 16) (pos 320) (pos 256) (pos 0);
+      scan = None;
+    })
 unfolding fitted_outline unfitted_fault begun_glyph glyph_data_of glyph_bytes_of header_of described
     simple_of ends_from end_at points_within points_of flags_from run_at coordinates_from coordinate_at
     within_words delta_at byte_in word_in signed_in slice_in blank ends_in_units varied_glyph
@@ -254,12 +262,17 @@ unfolding fitted_outline unfitted_fault begun_glyph glyph_data_of glyph_bytes_of
 both_ends = refl
 
 -- with HVAR its right end moves by that table alone
-left_end_by_gvar : fitted_outline (its_fitter 16 scaling.Rounded (record (its_metrics 0) { advances = Some (record {
-      hvar = record { table = 0 ∷ 1 ∷ 0 ∷ 0 ∷ 0 ∷ 0 ∷ 0 ∷ 20 ∷ 0 ∷ 0 ∷ 0 ∷ 0 ∷ 0 ∷ 0 ∷ 0 ∷ 0 ∷ 0 ∷ 0 ∷ 0 ∷ 0 ∷ 0 ∷ 1 ∷ 0 ∷ 0 ∷ 0 ∷ 12
+left_end_by_gvar : fitted_outline (its_fitter 16 scaling.Rounded (record (its_metrics 0) {
+  advances = Some (record {
+    hvar = record {
+      table = 0 ∷ 1 ∷ 0 ∷ 0 ∷ 0 ∷ 0 ∷ 0 ∷ 20 ∷ 0 ∷ 0 ∷ 0 ∷ 0 ∷ 0 ∷ 0 ∷ 0 ∷ 0 ∷ 0 ∷ 0 ∷ 0 ∷ 0 ∷ 0 ∷ 1 ∷ 0 ∷ 0 ∷ 0 ∷ 12
           ∷ 0 ∷ 1 ∷ 0 ∷ 0 ∷ 0 ∷ 22 ∷ 0 ∷ 1 ∷ 0 ∷ 1 ∷ 0 ∷ 0 ∷ 64 ∷ 0 ∷ 64 ∷ 0 ∷ 0 ∷ 3 ∷ 0 ∷ 0 ∷ 0 ∷ 1 ∷ 0 ∷ 0 ∷ 0 ∷
-          32 ∷ 240 ∷ []; at = 20 };
-      coordinates = pos 65536 ∷ [];
-    }) })
+          32 ∷ 240 ∷ [];
+      at = 20;
+    };
+    coordinates = pos 65536 ∷ [];
+  });
+})
     (0 ∷ 0 ∷ 0 ∷ 0 ∷ 0 ∷ 0xb ∷ 0 ∷ 0x16 ∷ [])
     (0 ∷ 1 ∷ 0 ∷ 0x40 ∷ 0 ∷ 0 ∷ 0 ∷ 0xc0 ∷ 0 ∷ 0x80 ∷ 0 ∷ 3 ∷ 0 ∷ 0 ∷ 0x33 ∷ 0x35 ∷ 0x33 ∷ 0x15 ∷ 0x40 ∷ 0x80
     ∷ 0x80 ∷ 0x80 ∷ 0 ∷ 1 ∷ 0 ∷ 0 ∷ 0 ∷ 0 ∷ 0 ∷ 0x40 ∷ 0 ∷ 0x40 ∷ 0 ∷ 3 ∷ 0 ∷ 0 ∷ 0x31 ∷ 0x35 ∷ 0x33 ∷ 0x15
@@ -269,11 +282,11 @@ left_end_by_gvar : fitted_outline (its_fitter 16 scaling.Rounded (record (its_me
     ∷ 0x10 ∷ 0x63 ∷ 0x81 ∷ 0x87 ∷ 0 ∷ [])
     (pos 65536 ∷ [])) 1
     ≡ Ok (record {
-  points = (pos 64, pos 0, true) ∷ (pos 64, pos 128, true) ∷ (pos 256, pos 128, true) ∷ (pos 256, pos 0, true) ∷ [];
-  ends = 4 ∷ [];
-  phantom = ends_at (pos 16) (pos 288) (pos 256) (pos 0);
-  scan = None;
-})
+      points = (pos 64, pos 0, true) ∷ (pos 64, pos 128, true) ∷ (pos 256, pos 128, true) ∷ (pos 256, pos 0, true) ∷ [];
+      ends = 4 ∷ [];
+      phantom = ends_at (pos 16) (pos 288) (pos 256) (pos 0);
+      scan = None;
+    })
 unfolding fitted_outline unfitted_fault begun_glyph glyph_data_of glyph_bytes_of header_of described
     simple_of ends_from end_at points_within points_of flags_from run_at coordinates_from coordinate_at
     within_words delta_at byte_in word_in signed_in slice_in blank ends_in_units varied_glyph
@@ -295,11 +308,11 @@ an_empty_glyph : fitted_outline (its_fitter 16 scaling.Rounded (its_metrics 0)
     0x83 ∷ [])
     (pos 65536 ∷ [])) 0
     ≡ Ok (record {
-  points = [];
-  ends = [];
-  phantom = ends_at (pos 0) (pos 320) (pos 256) (pos 0);
-  scan = None;
-})
+      points = [];
+      ends = [];
+      phantom = ends_at (pos 0) (pos 320) (pos 256) (pos 0);
+      scan = None;
+    })
 unfolding fitted_outline unfitted_fault begun_glyph glyph_data_of glyph_bytes_of header_of described
     simple_of ends_from end_at points_within points_of flags_from run_at coordinates_from coordinate_at
     within_words delta_at byte_in word_in signed_in slice_in blank ends_in_units varied_glyph
@@ -320,11 +333,11 @@ ends_of_a_composite : fitted_outline (its_fitter 16 scaling.Rounded (its_metrics
     0x83 ∷ 0x87 ∷ 0 ∷ 0 ∷ 1 ∷ 0 ∷ 0xa ∷ 0 ∷ 6 ∷ 0xa0 ∷ 0 ∷ 0x40 ∷ 0 ∷ 0 ∷ 0x81 ∷ 0 ∷ 0x40 ∷ 0x81 ∷ 0x84 ∷ [])
     (pos 65536 ∷ [])) 2
     ≡ Ok (record {
-  points = (pos 64, pos 0, true) ∷ (pos 64, pos 128, true) ∷ (pos 224, pos 128, true) ∷ (pos 224, pos 0, true) ∷ [];
-  ends = 4 ∷ [];
-  phantom = ends_at (pos 0) (pos 320) (pos 256) (pos 0);
-  scan = None;
-})
+      points = (pos 64, pos 0, true) ∷ (pos 64, pos 128, true) ∷ (pos 224, pos 128, true) ∷ (pos 224, pos 0, true) ∷ [];
+      ends = 4 ∷ [];
+      phantom = ends_at (pos 0) (pos 320) (pos 256) (pos 0);
+      scan = None;
+    })
 unfolding fitted_outline unfitted_fault begun_glyph glyph_data_of glyph_bytes_of header_of described
     simple_of ends_from end_at points_within points_of flags_from run_at coordinates_from coordinate_at
     within_words delta_at byte_in word_in signed_in slice_in blank ends_in_units varied_glyph
@@ -399,69 +412,3 @@ unfolding fitted_outline unfitted_fault begun_glyph glyph_data_of glyph_bytes_of
     moved_coordinate settled added placed appended shift_of within_point_limit composite_of records_from
     record_at known_glyph arguments_at argument_at transform_at unscaled program_of moved_record
 an_argument_past_16_bits = refl
-
--- Control values of 100, 200 and 300 units with deltas of 7, -7 and 0 by 44171 parts of 65536. They are 6702, 12498 and
--- 19200 64ths of a unit; at 41 pixels 268.34, 500.41 and 768.75
-abbrev its_instance : List ℕ → FaceInstance
-its_instance cvar = record {
-  coordinates = pos 44171 ∷ [];
-  gvar = record { table = 0 ∷ 1 ∷ 0 ∷ 0 ∷ 0 ∷ 1 ∷ 0 ∷ 1 ∷ 0 ∷ 0 ∷ 0 ∷ 28 ∷ 0 ∷ 3 ∷ 0 ∷ 0 ∷ 0 ∷ 0 ∷ 0 ∷ 30 ∷ 0 ∷ 0 ∷ 0 ∷ 0 ∷ 0 ∷ 7
-      ∷ 0 ∷ 7 ∷ 64 ∷ 0 ∷ 0 ∷ 1 ∷ 0 ∷ 10 ∷ 0 ∷ 3 ∷ 160 ∷ 0 ∷ 64 ∷ 0 ∷ 0 ∷ 135 ∷ 135 ∷ 0 ∷ []; axes = 1 };
-  cvar = cvar;
-}
-
-abbrev its_cvar : List ℕ
-its_cvar = 0 ∷ 1 ∷ 0 ∷ 0 ∷ 0 ∷ 1 ∷ 0 ∷ 14 ∷ 0 ∷ 5 ∷ 160 ∷ 0 ∷ 64 ∷ 0 ∷ 0 ∷ 1 ∷ 7 ∷ 249 ∷ 128 ∷ []
-
-abbrev its_programs : ProgramTables
-its_programs = record { cvt = 0 ∷ 100 ∷ 0 ∷ 200 ∷ 1 ∷ 44 ∷ []; fpgm = []; prep = [] }
-
-control_values : (begun_at (its_metrics 0) its_programs (Some (its_instance its_cvar)) 41 fit.Best).cvt
-    ≡ pos 268 ∷ pos 500 ∷ pos 769 ∷ []
-unfolding varied_values values_by_all varied_along contour inferred tuples_of tuples_from tuple_at
-    tuple_header_at header_at shared_points_of peak_at sides_at points_at listed_at count_at numbers_from
-    next_number number_run_at deltas_from next_delta delta_run_at bytes.byte_in bytes.word_in
-    bytes.signed_in bytes.slice_in share_after share_of_tuple_axis
-control_values = refl
-
--- a delta is missing: no value moves
-cut_cvar : (begun_at (its_metrics 0) its_programs (Some (its_instance (0 ∷ 1 ∷ 0 ∷ 0 ∷ 0 ∷ 1 ∷ 0 ∷ 14 ∷ 0 ∷ 5 ∷ 160 ∷ 0 ∷ 64 ∷ 0 ∷ 0 ∷ 1 ∷ 7 ∷ 249 ∷ []))) 41 fit.Best).cvt
-    ≡ pos 256 ∷ pos 513 ∷ pos 769 ∷ []
-unfolding varied_values values_by_all varied_along contour inferred tuples_of tuples_from tuple_at
-    tuple_header_at header_at shared_points_of peak_at sides_at points_at listed_at count_at numbers_from
-    next_number number_run_at deltas_from next_delta delta_run_at bytes.byte_in bytes.word_in
-    bytes.signed_in bytes.slice_in share_after share_of_tuple_axis
-cut_cvar = refl
-
--- by the font's default: 256.25, 512.5 and 768.75
-default_values : (begun_at (its_metrics 0) its_programs None 41 fit.Best).cvt ≡ pos 256 ∷ pos 513 ∷ pos 769 ∷ []
-default_values = refl
-
--- what GETVARIATION pushes: with Best, and with no other fit
-places : (begun_at (its_metrics 0) its_programs (Some (record (its_instance []) { coordinates = pos 32768 ∷ negsuc 52428 ∷ [] })) 16 fit.Best).instance
-    ≡ pos 8192 ∷ negsuc 13107 ∷ []
-places = refl
-
-no_places : (begun_at (its_metrics 0) its_programs (Some (its_instance [])) 16 fit.Full).instance ≡ []
-no_places = refl
-
--- one tuple, three values and one axis
-control_work : control_deltas_by (Some (its_instance its_cvar)) its_programs.cvt ≡ 4
-unfolding tuple_count
-control_work = refl
-
--- one tuple for each glyph: the square has 4 + 1 + 5, and the glyph that is made of it 4 + 1 + 1 besides
-deltas_of_both : deltas_asked (its_fitter 16 scaling.Rounded (its_metrics 64) (0 ∷ 0 ∷ 0 ∷ 0 ∷ 0 ∷ 0xb ∷ 0 ∷ 0x13 ∷ [])
-    (0 ∷ 1 ∷ 0 ∷ 0x40 ∷ 0 ∷ 0 ∷ 0 ∷ 0xc0 ∷ 0 ∷ 0x80 ∷ 0 ∷ 3 ∷ 0 ∷ 0 ∷ 0x33 ∷ 0x35 ∷ 0x33 ∷ 0x15 ∷ 0x40 ∷ 0x80
-    ∷ 0x80 ∷ 0x80 ∷ 0xff ∷ 0xff ∷ 0 ∷ 0x40 ∷ 0 ∷ 0 ∷ 0 ∷ 0xc0 ∷ 0 ∷ 0x80 ∷ 0 ∷ 2 ∷ 0 ∷ 1 ∷ 0 ∷ 0 ∷ [])
-    (0 ∷ 1 ∷ 0 ∷ 0 ∷ 0 ∷ 1 ∷ 0 ∷ 1 ∷ 0 ∷ 0 ∷ 0 ∷ 0x1c ∷ 0 ∷ 3 ∷ 0 ∷ 0 ∷ 0 ∷ 0 ∷ 0 ∷ 0x1e ∷ 0 ∷ 0 ∷ 0 ∷ 0 ∷ 0
-    ∷ 9 ∷ 0 ∷ 0x11 ∷ 0x40 ∷ 0 ∷ 0 ∷ 1 ∷ 0 ∷ 0xa ∷ 0 ∷ 7 ∷ 0xa0 ∷ 0 ∷ 0x40 ∷ 0 ∷ 0 ∷ 0x81 ∷ 1 ∷ 0x20 ∷ 0x20 ∷
-    0x83 ∷ 0x87 ∷ 0 ∷ 0 ∷ 1 ∷ 0 ∷ 0xa ∷ 0 ∷ 6 ∷ 0xa0 ∷ 0 ∷ 0x40 ∷ 0 ∷ 0 ∷ 0x81 ∷ 0 ∷ 0x40 ∷ 0x81 ∷ 0x84 ∷ []) (pos 65536 ∷ [])).instance
-    (record { loca = 0 ∷ 0 ∷ 0 ∷ 0 ∷ 0 ∷ 0xb ∷ 0 ∷ 0x13 ∷ [];
-      glyf = 0 ∷ 1 ∷ 0 ∷ 0x40 ∷ 0 ∷ 0 ∷ 0 ∷ 0xc0 ∷ 0 ∷ 0x80 ∷ 0 ∷ 3 ∷ 0 ∷ 0 ∷ 0x33 ∷ 0x35 ∷ 0x33 ∷ 0x15 ∷ 0x40 ∷ 0x80
-    ∷ 0x80 ∷ 0x80 ∷ 0xff ∷ 0xff ∷ 0 ∷ 0x40 ∷ 0 ∷ 0 ∷ 0 ∷ 0xc0 ∷ 0 ∷ 0x80 ∷ 0 ∷ 2 ∷ 0 ∷ 1 ∷ 0 ∷ 0 ∷ []; format = Short; glyphs = 3 }) 8 2 ≡ 16
-unfolding deltas_asked deltas_by told_size components_of glyph_data_of glyph_bytes_of header_of
-    described byte_in word_in signed_in slice_in gvar.glyph_data_of tuple_count composite_of records_from
-    record_at known_glyph arguments_at argument_at transform_at unscaled program_of simple_of ends_from
-    end_at points_within points_of flags_from run_at coordinates_from coordinate_at within_words delta_at
-deltas_of_both = refl

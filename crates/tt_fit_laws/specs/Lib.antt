@@ -1,1 +1,2 @@
+pub mod ControlRows
 pub mod InstanceRows
