@@ -1,6 +1,6 @@
 -- A glyph's deltas are refused for GlyphVariation alone.
-use Rattle.std.proofs.Common.{◌≡◌, ℕ, zero, suc, ◌+◌, ◌==◌, Bool, true, false, if◌then◌else◌, ℤ, List, [], ◌∷◌, Option, Some, None, Result, Ok, Err, inl, inr, refl}
-use Rattle.tt_core.specs.Chains.{was-err}
+use Rattle.std.proofs.Common.{◌≡◌, ◌∙◌, ap, sym, subst, ℕ, zero, suc, ◌+◌, ◌%◌, ◌==◌, nat_le, nat_lt, pos, Bool, true, false, if◌then◌else◌, ℤ, List, [], ◌∷◌, Option, Some, None, Result, Ok, Err, inl, inr, refl}
+use Rattle.tt_core.specs.Chains.{came-through, passed-on, was-err}
 use Rattle.tt_core.specs.Faults.{Fault}
 use Rattle.tt_core.specs.Outcomes.{◌>>=◌}
 use Rattle.tt_core.specs.declared.fault.Why.TheVariants as why
@@ -10,9 +10,7 @@ use Rattle.tt_fit_variation.specs.Advance.{deltas_of}
 use Rattle.tt_fit_variation.specs.Glyph.{composite_points, simple_points}
 use Rattle.tt_glyf.specs.Raw.{Raw, empty, simple, composite}
 use Rattle.tt_tuples.specs.Bytes.{Read, TupleStore, after, broken, byte_in, signed_in, slice_in, word_in}
-use Rattle.tt_tuples.specs.Deltas.{DeltaRun, delta_run, delta_run_at, deltas_at, deltas_from, next_delta, no_deltas, sized_delta}
-use Rattle.tt_tuples.specs.declared.deltas.DeltaSize.{DeltaSize}
-use Rattle.tt_tuples.specs.declared.deltas.DeltaSize.TheVariants as size
+use Rattle.tt_tuples.specs.Deltas.{DeltaRun, PackedDelta, delta_passed, delta_run, delta_run_at, deltas_at, deltas_from, next_delta, no_deltas, size_in, sized_delta}
 use Rattle.tt_tuples.specs.declared.source.TupleTable.{TupleTable}
 use Rattle.tt_tuples.specs.declared.source.TupleTable.TheVariants as table
 use Rattle.tt_tuples.specs.Headers.{TupleHeader, header_at, header_place, peak_at, shared_peak, sides_at, taken, tuple_header_at}
@@ -115,21 +113,63 @@ delta-run-at d at count = chain (byte_in d at) _ (byte d at) (λ c. either _ _ _
 delta-run : (d : TupleStore) (r : DeltaRun) (count : ℕ) → Breaks (delta_run d r count)
 delta-run d r count = either (r.left == 0) (delta_run_at d r.at count) (Ok r) (delta-run-at d r.at count) (done r)
 
-sized : (by : DeltaSize) (d : TupleStore) (at : ℕ) → Breaks (sized_delta by d at)
-sized size.Zeros d at = done _
-sized size.Bytes d at = chain (byte_in d at) _ (byte d at) (λ n. done _)
-sized size.Words d at = signed d at
+-- the size of a run that was read
+abbrev HasSize : DeltaRun → Type 0
+HasSize r = (c : ℕ) × (r.size ≡ size_in c)
 
-next-delta : (d : TupleStore) (r : DeltaRun) (count : ℕ) → Breaks (next_delta d r count)
+run-size : (d : TupleStore) (at count : ℕ) (run : DeltaRun) → delta_run_at d at count ≡ Ok run → HasSize run
+unfolding delta_run_at
+run-size d at count run was =
+    let first = came-through (byte_in d at) _ run was in
+    let read = (passed-on (nat_lt count (first.value % 64 + 1)) _ _ run first.rest).1 in
+    let same : record { at = at + 1; left = first.value % 64 + 1; size = size_in first.value } ≡ run = cc in
+    (first.value, ap (λ (r : DeltaRun). r.size) (sym same))
+
+kept-size : (none : Bool) (d : TupleStore) (r : DeltaRun) (count : ℕ) (run : DeltaRun) → HasSize r
+    → (if none then delta_run_at d r.at count else Ok r) ≡ Ok run → HasSize run
+kept-size true d r count run has was = run-size d r.at count run was
+kept-size false d r count run has was = let same : r ≡ run = cc in subst HasSize same has
+
+next-size : (d : TupleStore) (r : DeltaRun) (count : ℕ) (x : PackedDelta) → HasSize r → next_delta d r count ≡ Ok x
+    → HasSize x.run
 unfolding next_delta
-next-delta d r count = chain (delta_run d r count) _ (delta-run d r count)
-    (λ run. chain (sized_delta run.size d run.at) _ (sized run.size d run.at) (λ delta. done _))
+next-size d r count x has was =
+    let run = came-through (delta_run d r count) _ x was in
+    let delta = came-through (sized_delta run.value.size d run.value.at) _ x run.rest in
+    let size = kept-size (r.left == 0) d r count run.value has run.first in
+    let same : record { delta = delta.value; run = delta_passed run.value } ≡ x = let done = delta.rest in cc in
+    (size.0, ap (λ (p : PackedDelta). p.run.size) (sym same) ∙ size.1)
 
-deltas : (d : TupleStore) (count : ℕ) (r : DeltaRun) → Breaks (deltas_from d count r)
+sized-by : (d : TupleStore) (at c : ℕ) (a b : Bool) → nat_le 128 c ≡ a → nat_le 64 c ≡ b
+    → Breaks (sized_delta (size_in c) d at)
+sized-by d at c true b e f = rw e (done (pos 0))
+sized-by d at c false true e f = rw (e, f) (signed d at)
+sized-by d at c false false e f = rw (e, f) (chain (byte_in d at) _ (byte d at) (λ n. done _))
+
+sized : (d : TupleStore) (at : ℕ) (r : DeltaRun) → HasSize r → Breaks (sized_delta r.size d at)
+sized d at r has = rw has.1 (sized-by d at has.0 (nat_le 128 has.0) (nat_le 64 has.0) refl refl)
+
+next-delta : (d : TupleStore) (r : DeltaRun) (count : ℕ) → HasSize r → Breaks (next_delta d r count)
+unfolding next_delta
+next-delta d r count has f was = elim (was-err (delta_run d r count) _ f was) [
+  | inl here ↦ delta-run d r count f here
+  | inr run ↦
+      let size = kept-size (r.left == 0) d r count run.value has run.first in
+      chain (sized_delta run.value.size d run.value.at) _ (sized d run.value.at run.value size) (λ delta. done _) f run.rest
+]
+
+deltas : (d : TupleStore) (count : ℕ) (r : DeltaRun) → HasSize r → Breaks (deltas_from d count r)
 unfolding deltas_from
-deltas d zero r = done _
-deltas d (suc count) r = chain (next_delta d r (suc count)) _ (next-delta d r (suc count))
-    (λ x. afterwards (x.delta ∷ []) (deltas_from d count x.run) (deltas d count x.run))
+deltas d zero r has = done _
+deltas d (suc count) r has = λ f was. elim (was-err (next_delta d r (suc count)) _ f was) [
+  | inl here ↦ next-delta d r (suc count) has f here
+  | inr x ↦
+      afterwards (x.value.delta ∷ []) (deltas_from d count x.value.run)
+      (deltas d count x.value.run (next-size d r (suc count) x.value has x.first)) f x.rest
+]
+
+deltas-at : (d : TupleStore) (at count : ℕ) → Breaks (deltas_at d at count)
+deltas-at d at count = deltas d count (no_deltas at) (128, refl)
 
 -- headers
 take : (d : TupleStore) (at n : ℕ) → Breaks (taken d at n)
@@ -162,13 +202,13 @@ own-points : (s : Source) (shared : TuplePoints) (own : Bool) (at : ℕ) → Bre
 own-points s shared own at = either own _ _ (points s.store at s.points) (done _)
 
 second : (by : TupleTable) (d : TupleStore) (at count : ℕ) → Breaks (second_deltas by d at count)
-second table.Gvar d at count = deltas d count (no_deltas at)
+second table.Gvar d at count = deltas-at d at count
 second table.Cvar d at count = done _
 
 tuple : (s : Source) (shared : TuplePoints) (h : TupleHeader) (at : ℕ) → Breaks (tuple_at s shared h at)
 unfolding tuple_at
 tuple s shared h at = chain (tuple_points s shared h.own_points at) _ (own-points s shared h.own_points at)
-    (λ points. chain (deltas_at s.store points.next _) _ (deltas s.store _ (no_deltas points.next))
+    (λ points. chain (deltas_at s.store points.next _) _ (deltas-at s.store points.next _)
     (λ xs. chain (second_deltas s.store.table s.store xs.next _) _ (second s.store.table s.store xs.next _) (λ ys. done _)))
 
 before : (t : Tuple) (others : Result (List Tuple) Fault) → Breaks others → Breaks (tuple_before t others)
