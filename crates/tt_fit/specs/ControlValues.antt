@@ -6,7 +6,7 @@ use Rattle.tt_core.specs.Numbers.{signed16, unsigned_at}
 use Rattle.tt_core.specs.declared.scaling.Scale.{Scale}
 use Rattle.tt_deltas.specs.ControlValues.{varied_values}
 use Rattle.tt_face.specs.Faces.{FaceInstance}
-use Rattle.tt_fit.specs.DeltaCounting.{control_count, control_deltas_by, delta_limit}
+use Rattle.tt_fit.specs.DeltaCounting.{control_count, control_work, delta_limit}
 use Rattle.tt_fit.specs.declared.programs.Fit.{Fit}
 use Rattle.tt_fit.specs.declared.programs.Fit.TheVariants as fit
 use Rattle.tt_fit_hinting.specs.machine.Parts.{Parts}
@@ -26,7 +26,7 @@ abbrev pub cvar_read : Fit → FaceInstance → List ℕ → List ℕ
 cvar_read fit.Full i cvt = i.cvar
 cvar_read fit.None i cvt = i.cvar
 cvar_read fit.Fallback i cvt = i.cvar
-cvar_read fit.Best i cvt = if nat_lt delta_limit (control_deltas_by (Some i) cvt) then [] else i.cvar
+cvar_read fit.Best i cvt = if nat_lt delta_limit (control_work i cvt) then [] else i.cvar
 
 -- the control values at an instance in 26.6 pixels
 abbrev pub instance_control_values : FaceInstance → Scale → List ℕ → List ℕ → List ℤ

@@ -1,6 +1,6 @@
 -- The possible defects of a glyph's outline at a size, each with its fault, whatever the order of the tests. OpenType,
 -- "The 'glyf' table", "Composite Glyph Description"; the limits are profile.
-use Rattle.std.specs.Prelude.{◌≡◌, ℕ, zero, suc, ◌+◌, ◌<◌, Bool, true, false, ℤ, pos, negsuc, unsigned_abs, ◌+ℤ◌, ◌<ℤ◌, ◌≤ℤ◌, List, [], length, take, Option, Some, None, Result, Err, IsOkAnd, ◌⊎◌}
+use Rattle.std.specs.Prelude.{◌≡◌, ℕ, zero, suc, ◌+◌, ◌<◌, Bool, true, false, ℤ, pos, unsigned_abs, ◌+ℤ◌, ◌<ℤ◌, ◌≤ℤ◌, List, [], length, take, Option, Some, None, Result, Err, IsOkAnd, ◌⊎◌}
 use Rattle.std.specs.List.{slice_get}
 use Rattle.tt_core.specs.Faults.{Fault}
 use Rattle.tt_core.specs.declared.fault.Why.TheVariants as why
@@ -19,7 +19,7 @@ use Rattle.tt_glyf.specs.Loca.{glyph_offset}
 use Rattle.tt_glyf.specs.Raw.{Raw, empty, simple, composite}
 use Rattle.tt_fit_hinting.specs.machine.Parts.{Parts}
 use Rattle.tt_fit_outline.specs.Component.{shift_of, landed}
-use Rattle.tt_fit.specs.Fitting.{Begun, Fitter, size_of, start, glyph_grid, joined, default_phantom, default_units, ends_of, units_at, fine_phantom, begun, added, outline_at, glyph_fitter}
+use Rattle.tt_fit.specs.Fitting.{Begun, Fitter, size_of, start, glyph_grid, joined, default_phantom, default_units, ends_of, units_at, fine_phantom, begun_glyph, added, outline_at, glyph_fitter}
 use Rattle.tt_fit_outline.specs.declared.grid.Grid.{Grid}
 use Rattle.tt_fit_outline.specs.declared.grid.Grid.TheVariants as rounding
 use Rattle.tt_fit_hinting.specs.GlyphZone.{GlyphProgram, program_in_glyf, on_grid, on_grid_at}
@@ -31,6 +31,7 @@ use Rattle.tt_fit_outline.specs.Size.{FontSize, scale}
 use Rattle.tt_fit_variation.specs.Advance.{deltas_of}
 use Rattle.tt_fit_variation.specs.Ends.{EndDeltas, end_limit, moved_ends}
 use Rattle.tt_fit_variation.specs.Fine.{fine_scaled}
+use Rattle.tt_fit_variation.specs.Moved.{is_unit}
 
 -- a coordinate is past the limit
 abbrev pub PassesLimit : ℤ → Type 0
@@ -143,7 +144,7 @@ IsUnitsDefect at p d fault =
 
 -- a number is no int16
 abbrev pub LeavesUnits : ℤ → Type 0
-LeavesUnits v = (v <ℤ negsuc 32767) ⊎ (pos 32767 <ℤ v)
+LeavesUnits v = is_unit v ≡ false
 
 -- a coordinate in font units is no int16, or lies past the limit when it is scaled
 abbrev pub IsCoordinateDefect : FontSize → Varied → Type 0
@@ -168,20 +169,21 @@ IsOffsetsDefect records xs ys fault =
     (i : ℕ) × (r : Record) × (x : Varied) × (y : Varied) × (slice_get records i ≡ Some r)
     × (slice_get xs i ≡ Some x) × (slice_get ys i ≡ Some y) × IsOffsetDefect r x y fault
 
+-- a composite or an empty glyph without points, with its deltas
+abbrev pub IsWholeStartDefect : Fitter → ℤ → ℕ → ℕ → VariedPoints → Fault → Type 0
+IsWholeStartDefect s x_min g n v fault =
+    IsUnitsDefect (glyph_offset s.tables g) (default_units s x_min g) (ends_of s n v) fault
+    ⊎ IsOkAnd (units_at s x_min g n v) (λ units. IsStartDefect s (scaled_phantom (size_of s) units) g fault)
+
 -- a glyph with its deltas: a phantom point, a point or an offset is out of range
 abbrev pub IsVariedDefect : Fitter → ℕ → Raw → VariedPoints → Fault → Type 0
-IsVariedDefect s g empty v fault =
-    IsUnitsDefect (glyph_offset s.tables g) (default_units s (pos 0) g) (ends_of s 0 v) fault
-    ⊎ IsOkAnd (units_at s (pos 0) g 0 v) (λ units. IsStartDefect s (scaled_phantom (size_of s) units) g fault)
+IsVariedDefect s g empty v fault = IsWholeStartDefect s (pos 0) g 0 v fault
 IsVariedDefect s g (simple d) v fault =
     IsUnitsDefect (glyph_offset s.tables g) (default_units s d.x_min g) (ends_of s (length d.points) v) fault
     ⊎ IsSimpleStartDefect s (fine_phantom s g d v) g d.code fault
     ⊎ IsPointDefect (size_of s) (glyph_offset s.tables g) d.points v.xs v.ys fault
 IsVariedDefect s g (composite d) v fault =
-    IsUnitsDefect (glyph_offset s.tables g) (default_units s d.x_min g) (ends_of s (length d.records) v) fault
-    ⊎ IsOkAnd (units_at s d.x_min g (length d.records) v)
-    (λ units. IsStartDefect s (scaled_phantom (size_of s) units) g fault)
-    ⊎ IsOffsetsDefect d.records v.xs v.ys fault
+    IsWholeStartDefect s d.x_min g (length d.records) v fault ⊎ IsOffsetsDefect d.records v.xs v.ys fault
 
 -- a glyph cannot be begun; at an instance its deltas cannot be read, or it is out of range with them
 abbrev pub IsBegunDefectBy : Option FaceInstance → Fitter → ℕ → Raw → Fault → Type 0
@@ -204,7 +206,7 @@ IsFinishingDefect s add IsOne b fault =
 abbrev pub IsMakingDefect : Fitter → (Record → Outline → Result Outline Fault)
     → (Record → Result Outline Fault → Fault → Type 0) → ℕ → Raw → Fault → Type 0
 IsMakingDefect s add IsOne g raw fault =
-    IsBegunDefect s g raw fault ⊎ IsOkAnd (begun s g raw) (λ b. IsFinishingDefect s add IsOne b fault)
+    IsBegunDefect s g raw fault ⊎ IsOkAnd (begun_glyph s g raw) (λ b. IsFinishingDefect s add IsOne b fault)
 
 -- a glyph cannot be read, or has no outline
 abbrev pub IsDefectBy : Fitter → (Record → Outline → Result Outline Fault)

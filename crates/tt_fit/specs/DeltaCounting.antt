@@ -40,10 +40,14 @@ deltas_asked (Some i) t levels g = deltas_by i.gvar t levels g
 abbrev pub control_count : List ℕ → ℕ
 control_count cvt = min font_limit (length cvt / 2)
 
--- the work of the deltas of control values, by the bytes of cvt that are read
+-- the work of the deltas of control values at an instance, by the bytes of cvt that are read
+abbrev pub control_work : FaceInstance → List ℕ → ℕ
+control_work i cvt = control_value_work i.cvar (length i.coordinates) (control_count cvt)
+
+-- nothing by the font's default
 abbrev pub control_deltas_by : Option FaceInstance → List ℕ → ℕ
 control_deltas_by None cvt = 0
-control_deltas_by (Some i) cvt = control_value_work i.cvar (length i.coordinates) (control_count cvt)
+control_deltas_by (Some i) cvt = control_work i cvt
 
 -- it is counted where the work of a job is bounded
 abbrev pub control_deltas_of : Option FaceInstance → Fit → List ℕ → ℕ

@@ -29,7 +29,7 @@ use Rattle.tt_fit_outline.specs.Units.{Units, units_by}
 use Rattle.tt_fit_outline.specs.declared.rules.Scaling.{Scaling}
 use Rattle.tt_fit_variation.specs.Advance.{deltas_of}
 use Rattle.tt_fit_variation.specs.Ends.{EndDeltas, end_deltas, ends_in_units, fine_ends}
-use Rattle.tt_fit_variation.specs.Moved.{instance_places, instance_points, instance_units}
+use Rattle.tt_fit_variation.specs.Moved.{InstancePoint, instance_places, instance_points, instance_units}
 use Rattle.tt_fit_variation.specs.Records.{moved_records}
 use Rattle.tt_fit_hinting.specs.Work.{if_ok, hinted_work}
 use Rattle.tt_fit.specs.Work.{joined_work, left_in}
@@ -108,9 +108,10 @@ simple_begun s g d points phantom o = record {
   program = glyph_program s g d.code d.code_at (units_by s.scaling points phantom);
 }
 
-abbrev pub composite_begun : Fitter → ℕ → CompositeGlyph → List Record → Outline → Begun
-composite_begun s g d records o =
-    record { outline = o; records = records; program = glyph_program s g d.code d.code_at None }
+-- a composite glyph with these components
+abbrev pub composite_begun : Fitter → ℕ → List ℕ → ℕ → List Record → Outline → Begun
+composite_begun s g code code_at records o =
+    record { outline = o; records = records; program = glyph_program s g code code_at None }
 
 -- the phantom points by the font's default, in font units and in 26.6 pixels
 abbrev pub default_units : Fitter → ℤ → ℕ → PhantomPoints
@@ -126,7 +127,7 @@ begun_by_default s g (simple d) = simple_start s (default_phantom s d.x_min g) g
     >>= λ o. scaled_outline (size_of s) (glyph_offset s.tables g) d.points d.ends o
     >>= λ all. Ok (simple_begun s g d d.points (default_units s d.x_min g) all)
 begun_by_default s g (composite d) =
-    start s (default_phantom s d.x_min g) g >>= λ o. Ok (composite_begun s g d d.records o)
+    start s (default_phantom s d.x_min g) g >>= λ o. Ok (composite_begun s g d.code d.code_at d.records o)
 
 -- at an instance: the deltas of the phantom points, which follow so many points or components
 abbrev pub ends_of : Fitter → ℕ → VariedPoints → EndDeltas
@@ -140,20 +141,35 @@ units_at s x_min g n v = ends_in_units (glyph_offset s.tables g) (default_units 
 abbrev pub fine_phantom : Fitter → ℕ → SimpleGlyph → VariedPoints → PhantomPoints
 fine_phantom s g d v = fine_ends (size_of s).scale (default_units s d.x_min g) (ends_of s (length d.points) v)
 
+-- a composite or an empty glyph without points: its phantom points are scaled from whole font units
+abbrev pub whole_start : Fitter → ℤ → ℕ → ℕ → VariedPoints → Result Outline Fault
+whole_start s x_min g n v = units_at s x_min g n v >>= λ units. start s (scaled_phantom (size_of s) units) g
+
+-- a simple glyph without points, whose phantom points are scaled from parts of a unit: these in font units besides
+pub record FineStart : Type 0 where
+  pub units : PhantomPoints
+  pub outline : Outline
+
+abbrev pub fine_start : Fitter → ℕ → SimpleGlyph → VariedPoints → Result FineStart Fault
+fine_start s g d v = units_at s d.x_min g (length d.points) v >>= λ units.
+    simple_start s (fine_phantom s g d v) g d.code >>= λ o. Ok (record { units = units; outline = o })
+
+-- a simple glyph with its points in their places
+abbrev pub simple_moved : Fitter → ℕ → SimpleGlyph → FineStart → List InstancePoint → Begun
+simple_moved s g d b ps =
+    simple_begun s g d (instance_units ps) b.units (outline_in_place (instance_places ps) d.ends b.outline)
+
 abbrev pub empty_varied : Fitter → ℕ → VariedPoints → Result Begun Fault
-empty_varied s g v = units_at s (pos 0) g 0 v >>= λ units.
-    start s (scaled_phantom (size_of s) units) g >>= λ o. Ok (empty_begun s g o)
+empty_varied s g v = whole_start s (pos 0) g 0 v >>= λ o. Ok (empty_begun s g o)
 
 abbrev pub simple_varied : Fitter → ℕ → SimpleGlyph → VariedPoints → Result Begun Fault
-simple_varied s g d v = units_at s d.x_min g (length d.points) v >>= λ units.
-    simple_start s (fine_phantom s g d v) g d.code >>= λ o.
-    instance_points (size_of s) (glyph_offset s.tables g) d.points v.xs v.ys >>= λ ps.
-    Ok (simple_begun s g d (instance_units ps) units (outline_in_place (instance_places ps) d.ends o))
+simple_varied s g d v = fine_start s g d v >>= λ b.
+    instance_points (size_of s) (glyph_offset s.tables g) d.points v.xs v.ys >>= λ ps. Ok (simple_moved s g d b ps)
 
 abbrev pub composite_varied : Fitter → ℕ → CompositeGlyph → VariedPoints → Result Begun Fault
-composite_varied s g d v = units_at s d.x_min g (length d.records) v >>= λ units.
-    start s (scaled_phantom (size_of s) units) g >>= λ o.
-    moved_records d.records v.xs v.ys >>= λ records. Ok (composite_begun s g d records o)
+composite_varied s g d v = whole_start s d.x_min g (length d.records) v >>= λ o.
+    moved_records d.records v.xs v.ys >>= λ records.
+    Ok (composite_begun s g d.code d.code_at records o)
 
 abbrev pub begun_varied : Fitter → ℕ → Raw → VariedPoints → Result Begun Fault
 begun_varied s g empty v = empty_varied s g v
@@ -168,8 +184,8 @@ abbrev pub begun_by : Option FaceInstance → Fitter → ℕ → Raw → Result 
 begun_by None s g raw = begun_by_default s g raw
 begun_by (Some i) s g raw = begun_at_instance i s g raw
 
-unfoldable pub begun : Fitter → ℕ → Raw → Result Begun Fault
-begun s g raw = begun_by s.instance s g raw
+unfoldable pub begun_glyph : Fitter → ℕ → Raw → Result Begun Fault
+begun_glyph s g raw = begun_by s.instance s g raw
 
 -- the outline of a glyph that is begun, by how a record extends the outline so far: its components are added, and its
 -- program is run
@@ -177,7 +193,7 @@ abbrev pub finished : Fitter → (Record → Outline → Result Outline Fault) �
 finished s add b = joined add b.records b.outline >>= hinted s.hinting b.program
 
 abbrev pub made : Fitter → (Record → Outline → Result Outline Fault) → ℕ → Raw → Result Outline Fault
-made s add g raw = begun s g raw >>= finished s add
+made s add g raw = begun_glyph s g raw >>= finished s add
 
 abbrev pub outline_by : Fitter → (Record → Outline → Result Outline Fault) → ℕ → Result Outline Fault
 outline_by s add g = glyph_data_of s.tables g >>= made s add g
@@ -201,7 +217,7 @@ finished_work s add work b left =
 -- the work of a glyph's programs, by how a record extends the outline so far, and by the record's work
 abbrev pub made_work : Fitter → (Record → Outline → Result Outline Fault) → (Record → Option ℕ → Worked) → ℕ → Raw
     → Option ℕ → Worked
-made_work s add work g raw = if_ok (begun s g raw) (finished_work s add work)
+made_work s add work g raw = if_ok (begun_glyph s g raw) (finished_work s add work)
 
 abbrev pub work_by : Fitter → (Record → Outline → Result Outline Fault) → (Record → Option ℕ → Worked) → ℕ → Option ℕ
     → Worked
@@ -276,4 +292,3 @@ more_than_remains = refl
 
 not_bounded : work_less 40 None ≡ None
 not_bounded = refl
-

@@ -1,6 +1,6 @@
 -- Laws of the definitions. An outline has no defect, and a fault names one. A fit that falls back gives the outline of
 -- its programs alone, or the one without programs. The last laws give the dropout rules.
-use Rattle.std.specs.Prelude.{◌≡◌, ◌≢◌, ℕ, ◌≤◌, true, false, List, [], All, Option, Some, None, Result, Ok, Err, refl}
+use Rattle.std.specs.Prelude.{◌≡◌, ◌≢◌, ℕ, ◌≤◌, ◌==◌, true, false, List, [], length, All, Option, Some, None, Result, Ok, Err, refl}
 use Rattle.tt_core.specs.Directory.{HasNo}
 use Rattle.tt_core.specs.Faults.{Fault}
 use Rattle.tt_core.specs.Limits.{work_limit}
@@ -21,7 +21,7 @@ use Rattle.tt_fit.specs.Defects.{IsOutlineDefect}
 use Rattle.tt_fit.specs.Dropouts.{default_rules, none_ran, scan_rules, scan_left, dropouts_of}
 use Rattle.tt_fit.specs.Fallback.{never, where_refused, is_program_fault}
 use Rattle.tt_fit.specs.ControlValues.{places_of}
-use Rattle.tt_fit.specs.Fitting.{Begun, Fitter, with_hinting, size_of, begun, outline_at, glyph_work, unfitted_fault, fitted_outline, after_glyph}
+use Rattle.tt_fit.specs.Fitting.{Begun, Fitter, with_hinting, size_of, begun_glyph, outline_at, glyph_work, unfitted_fault, fitted_outline, after_glyph}
 use Rattle.tt_fit_hinting.specs.Hinting.{off, ready, run_of}
 use Rattle.tt_fit_hinting.specs.GlyphZone.{glyph_zone}
 use Rattle.tt_fit_outline.specs.Outline.{Outline, PhantomPoints}
@@ -180,14 +180,14 @@ IsScaledBy scale p = (p.org_x ≡ scaled_by scale p.units_x) × (p.org_y ≡ sca
 
 abbrev pub OriginalsAreScaled : Type 0
 OriginalsAreScaled = (s : Fitter) (g : ℕ) (d : SimpleGlyph) (b : Begun) (grid : PhantomPoints)
-    → s.scaling ≡ scaling.Rounded → s.instance ≡ None → begun s g (simple d) ≡ Ok b
+    → s.scaling ≡ scaling.Rounded → s.instance ≡ None → (length d.code == 0) ≡ false → begun_glyph s g (simple d) ≡ Ok b
     → All (IsScaledBy (size_of s).scale) (glyph_zone b.program.units b.outline grid)
 
 -- With every fit but Best no program measures in font units, and halves round upwards
 abbrev pub OthersMeasureInPixels : Type 0
 OthersMeasureInPixels = (m : Metrics) (tables : Glyf) (programs : ProgramTables) (instance : Option FaceInstance)
     (ppem : ℕ) (how : Fit) (s : Fitter) → how ≢ fit.Best → fitter_of m tables programs instance ppem how ≡ Ok s
-    → ((g : ℕ) (raw : Raw) (b : Begun) → begun s g raw ≡ Ok b → b.program.units ≡ None)
+    → ((g : ℕ) (raw : Raw) (b : Begun) → begun_glyph s g raw ≡ Ok b → b.program.units ≡ None)
     × ((size_of s).scale.halves ≡ halves.Up)
 
 -- Dropouts. With every fit but Best none are filled

@@ -22,7 +22,7 @@ use Rattle.tt_fit.specs.declared.dropouts.DropoutsBy.TheVariants as by
 use Rattle.tt_fit_outline.specs.Component.{shift_of}
 use Rattle.tt_fit_outline.specs.Joining.{placed, appended, within_point_limit}
 use Rattle.tt_fit.specs.Fallback.{Fallback, never, where_refused, everywhere, is_program_fault}
-use Rattle.tt_fit.specs.Fitting.{Fitter, simple_start, begun, added, added_work, fitted_outline, unfitted_fault}
+use Rattle.tt_fit.specs.Fitting.{Fitter, simple_start, begun_glyph, added, added_work, fitted_outline, unfitted_fault}
 use Rattle.tt_fit_hinting.specs.GlyphZone.{on_grid_at}
 use Rattle.tt_face.specs.Programs.{ProgramTables}
 use Rattle.tt_fit.specs.Preparation.{left_by_programs, programs_work, prepared}
@@ -71,20 +71,20 @@ abbrev its_fault : Fault
 its_fault = fault_at (codes "glyf") 14 why.OffProfile
 
 program_is_refused : fitted_outline (its_fitter never) 1 ≡ Err its_fault
-unfolding fitted_outline unfitted_fault begun glyph_data_of glyph_bytes_of header_of described simple_of ends_from end_at
+unfolding fitted_outline unfitted_fault begun_glyph glyph_data_of glyph_bytes_of header_of described simple_of ends_from end_at
     points_within points_of flags_from run_at coordinates_from coordinate_at within_words delta_at byte_in word_in
     signed_in slice_in blank simple_start scaled_outline settled by_program on_grid_at run_of run_outcome run_within
 program_is_refused = refl
 
 square_is_unfitted : unfitted_fault (its_fitter where_refused) 1 ≡ Some its_fault
-unfolding unfitted_fault begun glyph_data_of glyph_bytes_of header_of described simple_of ends_from end_at
+unfolding unfitted_fault begun_glyph glyph_data_of glyph_bytes_of header_of described simple_of ends_from end_at
     points_within points_of flags_from run_at coordinates_from coordinate_at within_words delta_at byte_in word_in
     signed_in slice_in blank simple_start scaled_outline settled by_program on_grid_at run_of run_outcome run_within
     is_program_fault why_number program_work run_work work_within
 square_is_unfitted = refl
 
 composite_is_unfitted : unfitted_fault (its_fitter where_refused) 2 ≡ Some its_fault
-unfolding unfitted_fault begun added glyph_data_of glyph_bytes_of header_of described simple_of ends_from end_at
+unfolding unfitted_fault begun_glyph added glyph_data_of glyph_bytes_of header_of described simple_of ends_from end_at
     points_within points_of flags_from run_at coordinates_from coordinate_at within_words delta_at byte_in word_in
     signed_in slice_in blank simple_start scaled_outline settled by_program on_grid_at run_of run_outcome run_within
     composite_of records_from record_at known_glyph arguments_at argument_at transform_at unscaled program_of
@@ -102,7 +102,7 @@ composite_is_scaled : fitted_outline (its_fitter where_refused) 2 ≡ Ok (record
   };
   scan = None;
 })
-unfolding fitted_outline unfitted_fault begun added placed appended shift_of within_point_limit glyph_data_of glyph_bytes_of
+unfolding fitted_outline unfitted_fault begun_glyph added placed appended shift_of within_point_limit glyph_data_of glyph_bytes_of
     header_of described simple_of ends_from end_at points_within points_of flags_from run_at coordinates_from
     coordinate_at within_words delta_at byte_in word_in signed_in slice_in blank simple_start scaled_outline settled by_program
     on_grid_at run_of run_outcome run_within composite_of records_from record_at known_glyph arguments_at argument_at
@@ -110,7 +110,7 @@ unfolding fitted_outline unfitted_fault begun added placed appended shift_of wit
 composite_is_scaled = refl
 
 short_is_refused : fitted_outline (its_fitter where_refused) 3 ≡ Err (fault_at (codes "glyf") 44 why.GlyphShort)
-unfolding fitted_outline unfitted_fault begun glyph_data_of glyph_bytes_of header_of described byte_in word_in signed_in
+unfolding fitted_outline unfitted_fault begun_glyph glyph_data_of glyph_bytes_of header_of described byte_in word_in signed_in
     slice_in is_program_fault why_number
 short_is_refused = refl
 

@@ -15,7 +15,7 @@ use Rattle.tt_metrics.specs.declared.heights.Heights.TheVariants.{Exact}
 use Rattle.tt_metrics.specs.Metrics.{Metrics}
 use Rattle.tt_fit.specs.declared.dropouts.DropoutsBy.TheVariants as by
 use Rattle.tt_fit.specs.Fallback.{never}
-use Rattle.tt_fit.specs.Fitting.{Fitter, simple_start, begun, added, fitted_outline, unfitted_fault}
+use Rattle.tt_fit.specs.Fitting.{Fitter, simple_start, begun_glyph, added, fitted_outline, unfitted_fault}
 use Rattle.tt_fit_hinting.specs.Hinting.{off}
 use Rattle.tt_fit_outline.specs.Component.{shift_of}
 use Rattle.tt_fit_outline.specs.Joining.{placed, appended, within_point_limit}
@@ -65,7 +65,7 @@ its_phantom_points left =
 
 empty_is_blank : fitted_outline (its_fitter []) 0 ≡ Ok
     (record { points = []; ends = []; phantom = its_phantom_points (pos 0); scan = None })
-unfolding fitted_outline unfitted_fault begun glyph_data_of blank
+unfolding fitted_outline unfitted_fault begun_glyph glyph_data_of blank
 empty_is_blank = refl
 
 square_is_scaled : fitted_outline (its_fitter []) 1 ≡ Ok (record {
@@ -74,7 +74,7 @@ square_is_scaled : fitted_outline (its_fitter []) 1 ≡ Ok (record {
   phantom = its_phantom_points (pos 0);
   scan = None;
 })
-unfolding fitted_outline unfitted_fault begun glyph_data_of glyph_bytes_of header_of described simple_of ends_from end_at points_within
+unfolding fitted_outline unfitted_fault begun_glyph glyph_data_of glyph_bytes_of header_of described simple_of ends_from end_at points_within
     points_of flags_from run_at coordinates_from coordinate_at within_words delta_at byte_in word_in signed_in slice_in
     blank simple_start scaled_outline settled
 square_is_scaled = refl
@@ -90,7 +90,7 @@ squares_are_joined : fitted_outline (its_fitter two_squares) 2 ≡ Ok (record {
   phantom = its_phantom_points (pos 0);
   scan = None;
 })
-unfolding fitted_outline unfitted_fault begun added placed appended shift_of within_point_limit glyph_data_of glyph_bytes_of header_of described
+unfolding fitted_outline unfitted_fault begun_glyph added placed appended shift_of within_point_limit glyph_data_of glyph_bytes_of header_of described
     composite_of records_from record_at known_glyph arguments_at argument_at transform_at unscaled program_of simple_of
     ends_from end_at points_within points_of flags_from run_at coordinates_from coordinate_at within_words delta_at
     byte_in word_in signed_in slice_in blank simple_start scaled_outline settled
@@ -101,6 +101,6 @@ abbrev itself : List ℕ
 itself = 255 ∷ 255 ∷ 0 ∷ 64 ∷ 0 ∷ 0 ∷ 1 ∷ 0 ∷ 0 ∷ 128 ∷ 0 ∷ 2 ∷ 0 ∷ 2 ∷ 0 ∷ 0 ∷ []
 
 itself_is_too_deep : fitted_outline (its_fitter itself) 2 ≡ Err (fault_at (codes "glyf") 32 why.ComponentDepth)
-unfolding fitted_outline unfitted_fault begun added glyph_data_of glyph_bytes_of header_of described composite_of records_from record_at
+unfolding fitted_outline unfitted_fault begun_glyph added glyph_data_of glyph_bytes_of header_of described composite_of records_from record_at
     known_glyph arguments_at argument_at transform_at unscaled program_of byte_in word_in signed_in slice_in blank
 itself_is_too_deep = refl
