@@ -1,3 +1,4 @@
 pub mod EndsMade
 pub mod Near
+pub mod RecordsMade
 pub mod Zipped
