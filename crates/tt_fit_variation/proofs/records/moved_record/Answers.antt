@@ -1,4 +1,4 @@
-use Rattle.std.proofs.Common.{◌≡◌, true, SFits, w16, w32, w64, refl, rules, arith}
+use Rattle.std.proofs.Common.{◌≡◌, true, SFits, w16, w32, w64, rules, arith}
 use Rattle.std.proofs.lemmas.Int.{to_z-of_z}
 use Rattle.std.proofs.lemmas.Result.{err_from_is_err_and}
 use Rattle.tt_glyf.specs.Format.{args_are_xy_values, has}
