@@ -1,4 +1,3 @@
 pub mod EndsMade
 pub mod Near
 pub mod RecordsMade
-pub mod Zipped
