@@ -1,6 +1,6 @@
 -- A face that is given at an instance has no defect: fvar, the coordinates and gvar's header passed their tests.
 use Rattle.std.proofs.Common.{◌≡◌, ◌∙◌, ℕ, ℤ, Bool, true, false, not, ◌==◌, nat_lt, List, length, Option, None, Some, Ok, inl, inr, refl, sym, arith}
-use Rattle.std.specs.Prelude.{is_some}
+use Rattle.std.specs.Prelude.{if◌then◌else◌, is_some}
 use Rattle.std.proofs.lemmas.Bool.Decides.{nat_tests}
 use Rattle.tt_axes.specs.Coordinates.{are_zero}
 use Rattle.tt_axes.specs.declared.values.AxisValue.{AxisValue}
@@ -10,7 +10,6 @@ use Rattle.tt_axes.specs.Instances.{coordinates_in, has_instance, missing_axis, 
 use Rattle.tt_core.proofs.Whole.{table-good}
 use Rattle.tt_core.specs.Chains.{came-through, not-below, not-neither, passed, passed-on}
 use Rattle.tt_core.specs.Directory.{Directory, HasNo, IsDefectIn, needed_table}
-use Rattle.tt_core.specs.Faults.{Fault}
 use Rattle.tt_core.specs.Outcomes.{◌>>=◌}
 use Rattle.tt_deltas.specs.Gvar.{Gvar, gvar_in, gvar_of, gvar_tag, header_size, offsets_end, shared_end, version, IsShapeDefect}
 use Rattle.tt_deltas.specs.Gvar as deltas
