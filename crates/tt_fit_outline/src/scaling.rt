@@ -224,11 +224,11 @@ pub fn outline_in_place(
     ensures exact { IfOk result (λ o. outline_of o ≡ outline_in_place points.items last_points.now (outline_of start)) }
 {
     let ends = contour_ends(alloc, last_points)?;
-    let phantom = start.phantom;
+    let kept = start.phantom;
     Ok(Outline {
         points,
         ends,
-        phantom,
+        phantom: kept,
         unfitted: None,
         scan: None,
     })

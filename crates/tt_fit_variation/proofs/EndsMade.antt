@@ -50,4 +50,8 @@ ascent-within p d all = end-within (p.ascent.1 +ℤ whole_units d.ascent) (and-t
 
 pub descent-within : (p : PhantomPoints) (d : EndDeltas) → are_ends (moved_ends p d) ≡ true
     → unsigned_abs (p.descent.1 +ℤ whole_units d.descent) ≤ end_limit
-descent-within p d all = end-within (p.descent.1 +ℤ whole_units d.descent) (and-true _ _ (and-true _ _ (and-true _ _ all).1).1).1
+descent-within p d all =
+    let ends = moved_ends p d in
+    let others = and-true (is_end ends.left.0) (is_end ends.right.0 && (is_end ends.ascent.1 && is_end ends.descent.1)) all in
+    let last = and-true (is_end ends.right.0) (is_end ends.ascent.1 && is_end ends.descent.1) others.1 in
+    end-within (p.descent.1 +ℤ whole_units d.descent) (and-true (is_end ends.ascent.1) (is_end ends.descent.1) last.1).1

@@ -1,3 +1,3 @@
 pub mod EndsMade
 pub mod Near
-pub mod Zipped
+pub mod RecordsMade

@@ -1,4 +1,4 @@
-use Rattle.std.proofs.Common.{◌≡◌, ◌∙◌, SFits, w32, w64, refl, rules, arith}
+use Rattle.std.proofs.Common.{◌∙◌, SFits, w32, w64, rules}
 use Rattle.std.proofs.lemmas.Int.{to_z-of_z}
 use Rattle.std.proofs.lemmas.Result.{err_from_is_err_and}
 use Rattle.tt_fit_outline.specs.Views.{phantom_units_view}
