@@ -1,2 +1,3 @@
+pub mod EndsMade
 pub mod Near
-pub mod Zipped
+pub mod RecordsMade
