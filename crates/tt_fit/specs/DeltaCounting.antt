@@ -1,6 +1,6 @@
 -- The work of a glyph's deltas at an instance, with each component counted as often as it is used; and that of the deltas
 -- of control values. It is counted from headers before any is done (profile).
-use Rattle.std.specs.Prelude.{◌≡◌, ℕ, zero, suc, ◌+◌, ◌/◌, min, List, length, Option, Some, None}
+use Rattle.std.specs.Prelude.{◌≡◌, ℕ, zero, suc, ◌+◌, ◌/◌, ◌==◌, if◌then◌else◌, min, List, length, Option, Some, None}
 use Rattle.std.specs.List.{sum_by}
 use Rattle.tt_core.specs.Limits.{font_limit}
 use Rattle.tt_deltas.specs.Gvar.{Gvar}
@@ -17,9 +17,13 @@ use Rattle.tt_fit.specs.Rules.{cvt_read}
 abbrev pub delta_limit : ℕ
 delta_limit = 8000000
 
--- a glyph without its components': by the contours and points, or the components, that its bytes declare
+-- the contours and points, or the components, that a glyph's bytes declare
+abbrev pub size_by : ℕ → ℕ → ℕ
+size_by parts told = if parts == 0 then told else parts
+
+-- a glyph without its components'
 abbrev pub own_deltas : Gvar → Glyf → ℕ → ℕ
-own_deltas v t g = glyph_work v g (told_size t g + length (components_of t g))
+own_deltas v t g = glyph_work v g (size_by (length (components_of t g)) (told_size t g))
 
 -- The work of a glyph with this many levels of components: its own, and its components' with one level fewer. With no
 -- level, its own alone.

@@ -5,6 +5,7 @@ ghost use Rattle.tt_core.specs.Limits.{font_limit, point_limit};
 ghost use Rattle.tt_core.specs.Outcomes.{FontGives, Gives};
 ghost use Rattle.tt_glyf.specs.Meaning.{AreEnds, AreRecords, HasArguments, HasProgram, IfComposite, IfSimple};
 ghost use Rattle.tt_glyf.specs.Raw.{composite, empty, raw_view, simple};
+ghost use Rattle.tt_metrics.specs.Metrics.{glyphs_of};
 ghost use Rattle.tt_fit.specs.Fitting.{begun_by, begun_by_default, begun_glyph, composite_begun, default_phantom, default_units, empty_begun, glyph_grid, glyph_program, simple_start, size_of, start, with_hinting};
 ghost use Rattle.tt_fit.specs.Views.{begun_view, composite_view, own_program_view, own_units_view, simple_view};
 ghost use Rattle.tt_fit_hinting.specs.Views.{hinting_view};
@@ -25,7 +26,8 @@ use tt_metrics::Metrics;
 
 impl<'a> Fitter<'a> {
     pub(crate) fn metrics(&self) -> &Metrics<'a>
-        ensures { result.now ≡ self.now.metrics }
+        ensures exact { result.now ≡ self.now.metrics }
+        ensures glyphs { self.now.tables.glyphs ≡ glyphs_of result.now }
     {
         &self.font.metrics
     }

@@ -35,7 +35,11 @@ impl DeltaCounter<'_, '_> {
         ensures exact { result ≡ own_deltas self.now.gvar.now self.now.glyf.now g }
         ensures bound { result < 2 ^ 39 }
     {
-        let size = self.glyf.told_size(g) + parts.len() as u32;
+        let size = if parts.is_empty() {
+            self.glyf.told_size(g)
+        } else {
+            parts.len() as u32
+        };
         self.gvar.work(g, size)
     }
 

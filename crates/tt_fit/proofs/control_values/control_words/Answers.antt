@@ -11,3 +11,6 @@ loop-i-preserved c =
     let fits : SFits w16 c.control_word.result = search rules in
     let pushed = simp to_z-of_z at c.in_ok-push.ensures.items in
     rw (pushed, c.loop-i.invariant, c.control_word.ensures, more) refl
+
+pub returns-clause-few : goal.returns-clause-few
+returns-clause-few c = let h = c.loop-i in ?
