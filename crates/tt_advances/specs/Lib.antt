@@ -1,0 +1,5 @@
+pub mod Defects
+pub mod Found
+pub mod Laws
+pub mod Lines
+pub mod Views
