@@ -124,11 +124,7 @@ fn points_left(
 }
 
 /// What remains of `most` after the deltas of some glyphs; None where they have more. Error: out of memory.
-fn glyph_deltas_left(
-    fitter: &Fitter,
-    glyphs: &[u16],
-    most: u64,
-) -> Result<Option<u64>, AllocError>
+fn glyph_deltas_left(fitter: &Fitter, glyphs: &[u16], most: u64) -> Result<Option<u64>, AllocError>
     requires known { All (λ g. g < fitter.now.tables.glyphs) glyphs.now }
     ensures { IfOk result (λ left. left ≡ left_of most (sum_by (deltas_asked fitter.now.instance fitter.now.tables fitter.now.levels) glyphs.now)) }
 {
