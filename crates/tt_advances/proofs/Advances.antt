@@ -7,6 +7,7 @@ use Rattle.tt_advances.specs.Found.{advances_tested, all_found, face_units, glyp
 use Rattle.tt_advances.specs.Laws.{DefaultsGiveAdvances, FoundAdvancesAreWhole, HasPlainAdvances, TablesGiveAdvances}
 use Rattle.tt_advances.specs.Lines.{advance_line, advance_step}
 use Rattle.tt_core.specs.Chains.{came-through, was-err}
+use Rattle.tt_core.specs.Directory.{HasNo}
 use Rattle.tt_core.specs.Faults.{Fault}
 use Rattle.tt_core.specs.Outcomes.{◌>>=◌}
 use Rattle.tt_face.proofs.Whole.{glyph-tables-whole}
@@ -40,6 +41,9 @@ plain_advances face off =
       line = λ ppem gs. stepped_alike face.metrics (advance_step face ppem) (step_in_pixels face.metrics ppem) gs (step ppem);
       tested = plain_tested face off;
     }
+
+pub plain_sound : (face : Face) (gs : List ℕ) → finds_advances face ≡ false → HasNo (IsAdvanceDefect face gs)
+plain_sound face gs off = λ fault defect. let never : true ≡ false = sym defect.0 ∙ off in absurd cc
 
 -- a face without an instance finds no advances
 unvaried : (instance : Option FaceInstance) (by_hvar : Bool) → instance ≡ None → is_some instance && by_hvar ≡ false
