@@ -1,5 +1,5 @@
 -- A step of a drawing that stops also stops the picture.
-use Rattle.std.proofs.Common.{◌≡◌, ap, ℕ, ◌<◌, ◌≤◌, nat_lt, Bool, true, false, ◌&&◌, if◌then◌else◌, List, map, Result, Ok, Err, inl, inr, refl, arith}
+use Rattle.std.proofs.Common.{◌≡◌, ap, sym, ℕ, ◌<◌, ◌≤◌, nat_lt, Bool, true, false, ◌&&◌, if◌then◌else◌, List, map, Result, Ok, Err, inl, inr, refl, arith}
 use Rattle.std.proofs.lemmas.Bool.Decides.{nat_tests}
 use Rattle.std.specs.Prelude.{IfSome, IsOkAnd}
 use Rattle.tt_advances.proofs.Advances.{plain_advances}
@@ -53,6 +53,24 @@ laid_as_placed a face (Ok l) passes other off gives = rw (passes, placed_by_adva
 laid_as_placed a face (Err (draw.Font f)) passes other off gives = absurd gives
 laid_as_placed a face (Err (draw.Job j)) passes other off gives = rw (passes, placed_by_advances face a other off, gives) refl
 laid_as_placed a face (Err draw.Memory) passes other off gives = tt
+
+-- a test that stops before a value, or is passed
+pub test_stops : {Y E : Type 0} (x : Result (Unit {0}) E) (y : Y) (f : E) → (x >>= λ u. Ok y) ≡ Err f → x ≡ Err f
+test_stops (Ok u) y f was = absurd cc
+test_stops (Err e) y f was = cc
+
+pub test_passes : {Y E : Type 0} (x : Result (Unit {0}) E) (y z : Y) → (x >>= λ u. Ok y) ≡ Ok z → (x ≡ Ok tt) × (z ≡ y)
+test_passes (Ok tt) y z was = (refl, let same : y ≡ z = cc in sym same)
+test_passes (Err e) y z was = absurd cc
+
+-- advances that are not found stop the layout
+pub units_stop : (face : Face) (a : Job) (e : FontFault) (line : List (ℕ × ℕ))
+    → IfSome (font_fault e) (λ f. (advances_tested face (text_glyphs face.cmap a.text) >>= λ u. Ok line) ≡ Err f)
+    → IfSome (refusal (draw_fault_of_font e)) (λ r. placed_by_units face a ≡ Err r)
+unfolding placed_by_units
+units_stop face a (font.Font f) line fails =
+    rw (test_stops (advances_tested face (text_glyphs face.cmap a.text)) line f fails) refl
+units_stop face a font.Memory line fails = tt
 
 -- a stop in opening the fitter, or in making a glyph, stops the line
 pub setting_stops : (face : Face) (a : Job) (l : Placement) (e : FontFault)

@@ -32,7 +32,7 @@ impl<'f, 'a> SizedFace<'f, 'a> {
         ensures margin { IfOk result (λ l. l.margin ≡ margin) }
         ensures glyphs { IfOk result (λ l. map (λ g. g.0) l.line.glyphs.items ≡ text_glyphs self.old.face.cmap text.now) }
         ensures known { IfOk result (λ l. All (λ g. g.0 < glyphs_of self.old.face.metrics) l.line.glyphs.items) }
-        ensures fault { IfTold draw_font_fault result (IsAdvanceDefect self.old.face (text_glyphs self.old.face.cmap text.now)) }
+        ensures defects { TellsDefects draw_font_fault (IsAdvanceDefect self.old.face (text_glyphs self.old.face.cmap text.now)) result }
         ensures job { IfTold draw_job_fault result (λ j. IsOkAnd (advances_tested self.old.face (text_glyphs self.old.face.cmap text.now))
             (λ u. IsRefusal (advance_extent self.old.face self.old.ppem margin (text_glyphs self.old.face.cmap text.now)) j)) }
         ensures same { self.new ≡ self.old }
