@@ -46,7 +46,7 @@ pub plain_sound : (face : Face) (gs : List ℕ) → finds_advances face ≡ fals
 plain_sound face gs off = λ fault defect. let never : true ≡ false = sym defect.0 ∙ off in absurd cc
 
 -- a face without an instance finds no advances
-unvaried : (instance : Option FaceInstance) (by_hvar : Bool) → instance ≡ None → is_some instance && by_hvar ≡ false
+pub unvaried : (instance : Option FaceInstance) (by_hvar : Bool) → instance ≡ None → is_some instance && by_hvar ≡ false
 unvaried None by_hvar is = refl
 unvaried (Some i) by_hvar is = absurd cc
 
