@@ -1,5 +1,5 @@
 -- A request for the bitmaps of a list, up to the test of its points.
-use Rattle.std.proofs.Common.{◌≡◌, ap, refl, ℕ, List, [], ◌∷◌, map, All, Result, Ok, Err, arith}
+use Rattle.std.proofs.Common.{◌≡◌, ◌∙◌, ap, refl, sym, ℕ, List, [], ◌∷◌, map, All, Option, Result, Ok, Err, arith}
 use Rattle.std.specs.Prelude.{IfSome}
 use Rattle.std.proofs.lemmas.List.Elements.{All-cons, All-head, All-tail}
 use Rattle.tt_core.specs.declared.draw_fault.DrawFault.{DrawFault}
@@ -10,7 +10,7 @@ use Rattle.tt_core.specs.declared.font_fault.FontFault.TheVariants as font
 use Rattle.tt_core.specs.Chains.{came-through}
 use Rattle.tt_core.specs.Faults.{Fault}
 use Rattle.tt_core.specs.Outcomes.{FontGives, draw_fault_of_font, draw_font_fault}
-use Rattle.tt_face.specs.Faces.{Face, glyphs_in}
+use Rattle.tt_face.specs.Faces.{Face, FaceInstance, glyphs_in}
 use Rattle.tt_face.specs.Programs.{ProgramTables}
 use Rattle.tt_fit.specs.declared.programs.Fit.{Fit}
 use Rattle.tt_fit.specs.Fitting.{Fitter}
