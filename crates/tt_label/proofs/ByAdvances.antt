@@ -5,11 +5,9 @@ use Rattle.tt_advances.specs.Found.{advances_tested}
 use Rattle.tt_advances.specs.Lines.{advance_step}
 use Rattle.tt_core.specs.Chains.{came-through}
 use Rattle.tt_core.specs.declared.draw_fault.DrawFault.{DrawFault}
-use Rattle.tt_core.specs.declared.draw_fault.DrawFault.TheVariants as draw
-use Rattle.tt_core.specs.declared.fault.JobFault.{JobFault}
 use Rattle.tt_core.specs.declared.font_fault.FontFault.{FontFault}
 use Rattle.tt_core.specs.declared.font_fault.FontFault.TheVariants as fault
-use Rattle.tt_core.specs.Outcomes.{◌>>=◌, JobGives, draw_fault_of_font, draw_font_fault, font_fault}
+use Rattle.tt_core.specs.Outcomes.{◌>>=◌, draw_fault_of_font, font_fault}
 use Rattle.tt_core.specs.Faults.{Fault}
 use Rattle.tt_face.specs.Faces.{Face}
 use Rattle.tt_label.specs.Label.{joint, joint_numbers, label_glyphs, label_placed, stepped_lines}
@@ -72,13 +70,6 @@ pub found_fails : {Y : Type 0} (r : Result (Unit {0}) Fault) (next : Unit {0} �
 found_fails r next fault.Memory fails = tt
 found_fails (Ok u) next (fault.Font f) fails = absurd cc
 found_fails (Err g) next (fault.Font f) fails = fails
-
--- the size of a label is no defect of the font
-pub placement_tells : {W Y : Type 0} (view : W → Y) (wanted : Result Y JobFault) (P : Fault → Type 0) (d : DrawFault)
-    → JobGives view (Err d) wanted → IfSome (draw_font_fault d) P
-placement_tells view wanted P (draw.Font f) gives = absurd gives
-placement_tells view wanted P (draw.Job j) gives = tt
-placement_tells view wanted P draw.Memory gives = tt
 
 pub units_ready_label : (face : Face) (a : Job) (how : Align) (lines : List (List (ℕ × ℕ))) → tested a ≡ Ok tt → is_bounded a.fit ≡ false
     → FontLines face a lines

@@ -6,7 +6,8 @@ use Rattle.tt_core.specs.Limits.{text_limit}
 use Rattle.tt_label.specs.Label.{label_glyphs, label_placed}
 use Rattle.tt_label.specs.Views.{placements_of}
 use Rattle.tt_label.proofs.Joined.{all_flat, each_short}
-use Rattle.tt_label.proofs.ByAdvances.{found_fails, placement_tells, units_ready_label, units_stop_label}
+use Rattle.tt_label.proofs.ByAdvances.{found_fails, units_ready_label, units_stop_label}
+use Rattle.tt_label.proofs.ByStep.{size_tells_no_defect}
 use Rattle.tt_label.proofs.Placed.{laid_by, refused_as_job}
 use Rattle.tt_line.specs.declared.line.Line.{Line}
 use Rattle.tt_line.specs.Labels.{label_placement}
@@ -37,7 +38,7 @@ returns-in_err-steps-clause-defects c =
 pub returns-in_err-laid-clause-defects : goal.returns-in_err-laid-clause-defects
 returns-in_err-laid-clause-defects c =
     let p = err_from_is_err_and c.from_residual-in_err-laid.result c.from_residual-in_err-laid.ensures.1 in
-    rw (p.1, p.2) (placement_tells (λ (v : Vec Line Global). map placement_of v.items) _ _ c.in_err-laid.field-0.0 c.in_err-laid.ensures)
+    rw (p.1, p.2) (size_tells_no_defect (λ (v : Vec Line Global). map placement_of v.items) _ _ c.in_err-laid.field-0.0 c.in_err-laid.ensures)
 
 pub returns-in_err-laid-clause-exact : goal.returns-in_err-laid-clause-exact
 returns-in_err-laid-clause-exact c =
