@@ -140,8 +140,8 @@ fn found_rows(
     Ok(made)
 }
 
-/// The units of some lines with their steps by advances. Errors: those of `found_rows`, at an instance without HVAR alone;
-/// Memory.
+/// The units of some lines with their steps by advances. Errors: those of `found_rows`, at an instance without HVAR
+/// alone; Memory.
 pub(crate) fn row_units(
     source: &FitterSource,
     lines: &[Vec<RowUnit>],

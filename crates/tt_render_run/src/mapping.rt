@@ -26,8 +26,8 @@ use tt_render_streams::{RunFault, push_name, read_font};
 use tt_strike::{Face, Opening, test_text};
 
 /// Writes a line `U+NNNN glyph advance` for each unit of the text: the code point in capital hexadecimal, the glyph's
-/// number and its advance in font units, at the instance that is asked for. With the wide reading a unit with a variation selector has
-/// `U+NNNN U+NNNN glyph advance`. Nothing is written before all lines are made.
+/// number and its advance in font units, at the requested instance. With the wide reading a unit with a variation
+/// selector has `U+NNNN U+NNNN glyph advance`. Nothing is written before all lines are made.
 ///
 /// Errors, the first of: Job (TextLong), before the font is read; Read, FontLarge; Font, in the order in which the
 /// bytes are read; Write. Memory may come at any allocation.
