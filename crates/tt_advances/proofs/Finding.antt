@@ -14,7 +14,7 @@ use Rattle.tt_face.specs.Faces.{Face, finds_advances, glyphs_in}
 use Rattle.tt_glyf.specs.Loca.{Glyf}
 
 -- the test of some glyphs by glyph data that are open
-tested_by : (face : Face) (t : Glyf) (gs : List ℕ) → finds_advances face ≡ true → glyphs_in face ≡ Ok t
+pub tested_by : (face : Face) (t : Glyf) (gs : List ℕ) → finds_advances face ≡ true → glyphs_in face ≡ Ok t
     → advances_tested face gs ≡ all_found (glyph_units face.instance face.metrics t) gs
 unfolding advances_tested
 tested_by face t gs finds there = rw (finds, there) refl

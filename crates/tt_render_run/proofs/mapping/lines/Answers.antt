@@ -1,6 +1,7 @@
 use Rattle.std.proofs.Common.{◌≡◌, List, [], chars, sym, ◌∙◌}
 use Rattle.std.proofs.lemmas.Iterator.Consumers.{YieldsList-from_first, YieldsList-end}
 use Rattle.std.proofs.lemmas.List.{flat_map_more, map-id}
+use Rattle.tt_advances.proofs.Advances.{plain_advances}
 use Rattle.tt_advances.specs.Found.{units_of}
 use Rattle.tt_cmap.specs.declared.units.TextUnit.{TextUnit}
 use Rattle.tt_cmap.specs.Maps.{glyph_of_unit, units_by}
@@ -22,7 +23,7 @@ loop-unit-preserved c =
     let line = map_line face in
     let glyph : c.glyph_of_unit-glyph.result ≡ glyph_of_unit face.cmap c.in-Some.unit =
     rw c.loop-unit.invariant.same at c.glyph_of_unit-glyph.ensures.exact in
-    let plain = c.tables_give_advances.ensures.tables face c.requires in
+    let plain = plain_advances face c.requires in
     let units : c.advance.result ≡ units_of face (glyph_of_unit face.cmap c.in-Some.unit) =
     (rw (c.metrics-metrics.ensures, glyph) at c.advance.ensures) ∙ sym (plain.units (glyph_of_unit face.cmap c.in-Some.unit)) in
     record {
