@@ -1,8 +1,7 @@
 //! Writes each unit's glyph and advance as lines, by a font from a reader.
 
-ghost use Rattle.std.specs.Prelude.{◌≡◌, ◌<◌, ◌≤◌, true, false, length, map, chars, option_map, IfOk, IfSome};
+ghost use Rattle.std.specs.Prelude.{◌≡◌, ◌<◌, ◌≤◌, true, false, length, chars, option_map, IfOk, IfSome};
 ghost use Rattle.tt_advances.specs.Defects.{IsAdvanceDefect};
-ghost use Rattle.tt_cmap.specs.Maps.{glyph_of_unit};
 ghost use Rattle.tt_core.specs.declared.fault.JobFault.TheVariants.{TextLong};
 ghost use Rattle.tt_core.specs.Limits.{font_limit, text_limit};
 ghost use Rattle.tt_core.specs.Outcomes.{FontGives, font_fault};
@@ -104,9 +103,9 @@ fn found_lines(alloc: Global, face: &Face, text: &str) -> Result<Vec<u8>, FontFa
     let mut known = KnownGlyphs::new(cmap);
     let mut line = Ascii::new();
     for unit in cmap.units(text) {
-        let glyph = known.glyph_of_unit(unit);
-        let units = found.units(glyph)?;
-        make_line(&mut line, unit, glyph, units);
+        let number = known.glyph_of_unit(unit);
+        let units = found.units(number)?;
+        make_line(&mut line, unit, number, units);
         lines.extend_from_slice(line.as_bytes())?;
     }
     Ok(lines)

@@ -10,16 +10,16 @@ use Rattle.tt_line.specs.Layout.{text_glyphs}
 use Rattle.tt_metrics.specs.Metrics.{glyphs_of}
 use Rattle.tt_render_run.specs.MapLines.{map_line}
 use Rattle.tt_render_run.proofs.Mapped.{found_next, found_stops, none_left, one_tells, tested_lines, units_found, untested_lines}
-use Rattle.tt_render_run.proofs.mapping.found_lines.Goals.{After-glyph_of_unit-glyph, In_None}
+use Rattle.tt_render_run.proofs.mapping.found_lines.Goals.{After-glyph_of_unit-number, In_None}
 use Rattle.tt_render_run.proofs.mapping.found_lines.Goals as goal
 
 -- the glyph of a unit
-glyph_is : (c : After-glyph_of_unit-glyph) → c.glyph_of_unit-glyph.result ≡ glyph_of_unit c.args.face.now.cmap c.in-Some.unit
-glyph_is c = rw c.loop-unit.invariant.same at c.glyph_of_unit-glyph.ensures.exact
+glyph_is : (c : After-glyph_of_unit-number) → c.glyph_of_unit-number.result ≡ glyph_of_unit c.args.face.now.cmap c.in-Some.unit
+glyph_is c = rw c.loop-unit.invariant.same at c.glyph_of_unit-number.ensures.exact
 
 pub units-requires : goal.units-requires
 units-requires c =
-    let bound = rw c.loop-unit.invariant.same at c.glyph_of_unit-glyph.ensures.bound in
+    let bound = rw c.loop-unit.invariant.same at c.glyph_of_unit-number.ensures.bound in
     rw (c.loop-unit.invariant.face, ← c.cmap-cmap.ensures.glyphs, c.cmap-cmap.ensures.exact) bound
 
 pub loop-unit-preserved : goal.loop-unit-preserved
@@ -28,7 +28,7 @@ loop-unit-preserved c =
     let was = c.loop-unit.invariant in
     let u = c.in-Some.unit in
     let found = glyph_units face.instance face.metrics c.loop-unit.found.tables in
-    let glyph = glyph_is (goal.at.loop-unit-preserved c).After-glyph_of_unit-glyph in
+    let glyph = glyph_is (goal.at.loop-unit-preserved c).After-glyph_of_unit-number in
     let is : found (glyph_of_unit face.cmap u) ≡ Ok c.in_ok-units.units = rw (was.face, glyph) at c.in_ok-units.ensures.exact in
     let units : c.in_ok-units.units ≡ units_of face (glyph_of_unit face.cmap u) =
     units_found face c.loop-unit.found.tables (glyph_of_unit face.cmap u) c.in_ok-units.units was.there is in
@@ -38,7 +38,7 @@ loop-unit-preserved c =
       split = goes-on c.loop-unit.yielded c.loop-unit.unit-iterator _ (units_by face.cmap (chars c.args.text.now)) u c.in-Some.ensures.steps was.split;
       lines = rw (c.in_ok-extend_from_slice.ensures.items, c.as_bytes.ensures.exact, c.make_line.ensures)
           (rw (units, glyph, was.lines) (flat_map_more (map_line face) [] c.loop-unit.yielded u));
-      same = c.glyph_of_unit-glyph.ensures.same ∙ was.same;
+      same = c.glyph_of_unit-number.ensures.same ∙ was.same;
       face = was.face;
       there = was.there;
       tested = next;
@@ -68,7 +68,7 @@ returns-in_err-units-clause-exact c =
     let gs = text_glyphs face.cmap c.args.text.now in
     let e = c.in_err-units.field-0.0 in
     let found = glyph_units face.instance face.metrics t in
-    let glyph = glyph_is (goal.at.returns-in_err-units-clause-exact c).After-glyph_of_unit-glyph in
+    let glyph = glyph_is (goal.at.returns-in_err-units-clause-exact c).After-glyph_of_unit-number in
     let fails = rw (was.face, glyph) at c.in_err-units.ensures.exact in
     let stops = found_stops found (glyph_of_unit face.cmap) (all_found found gs) c.loop-unit.unit-iterator _ c.in-Some.unit e was.tested
     c.in-Some.ensures.steps fails in
@@ -83,7 +83,7 @@ returns-in_err-units-clause-defects c =
     let gs = text_glyphs face.cmap c.args.text.now in
     let e = c.in_err-units.field-0.0 in
     let found = glyph_units face.instance face.metrics t in
-    let glyph = glyph_is (goal.at.returns-in_err-units-clause-defects c).After-glyph_of_unit-glyph in
+    let glyph = glyph_is (goal.at.returns-in_err-units-clause-defects c).After-glyph_of_unit-number in
     let fails = rw (was.face, glyph) at c.in_err-units.ensures.exact in
     let stops = found_stops found (glyph_of_unit face.cmap) (all_found found gs) c.loop-unit.unit-iterator _ c.in-Some.unit e was.tested
     c.in-Some.ensures.steps fails in
