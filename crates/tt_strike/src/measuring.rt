@@ -116,7 +116,6 @@ impl<'f, 'a> SizedFace<'f, 'a> {
         requires at { finds_advances self.now.face ≡ true → (at < length units.now) × (slice_index units.now at ≡ units_of self.now.face glyph) }
         ensures { result ≡ units_of self.now.face glyph }
     {
-        tt_advances::laws::tables_give_advances();
         if self.finds_advances() {
             return units[at];
         }
