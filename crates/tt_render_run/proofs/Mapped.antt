@@ -1,7 +1,7 @@
 -- The lines of a text by the advances of its glyphs, which are found first.
 use Rattle.std.proofs.Common.{◌≡◌, refl, ℕ, true, false, List, [], ◌∷◌, map, Option, Result, Ok, Err, inl, inr, subst}
 use Rattle.std.specs.Prelude.{IfSome, IsOkAnd}
-use Rattle.tt_advances.proofs.Advances.{plain_advances, refused_tells, units_by_tables}
+use Rattle.tt_advances.proofs.Advances.{plain_advances, units_by_tables}
 use Rattle.tt_advances.specs.Defects.{IsAdvanceDefect}
 use Rattle.tt_advances.specs.Found.{advances_tested, all_found, glyph_units, units_of}
 use Rattle.tt_cmap.specs.declared.units.TextUnit.{TextUnit}
@@ -89,10 +89,3 @@ pub units_found : (face : Face) (t : Glyf) (g n : ℕ) → glyphs_in face ≡ Ok
     → n ≡ units_of face g
 unfolding units_of
 units_found face t g n there is = rw (units_by_tables face t g there, is) refl
-
--- a glyph's fault is a defect of the advances
-pub one_tells : (face : Face) (gs : List ℕ) (t : Glyf) (e : FontFault) → finds_advances face ≡ true → glyphs_in face ≡ Ok t
-    → IfSome (font_fault e) (λ f. all_found (glyph_units face.instance face.metrics t) gs ≡ Err f)
-    → IfSome (font_fault e) (IsAdvanceDefect face gs)
-one_tells face gs t fault.Memory finds there fails = tt
-one_tells face gs t (fault.Font f) finds there fails = refused_tells face t gs f finds there fails

@@ -64,11 +64,6 @@ test_passes (Ok tt) y z was = (refl, let same : y ≡ z = cc in sym same)
 test_passes (Err e) y z was = absurd cc
 
 -- advances that are not found stop the layout
-pub chain_stops : {Y : Type 0} (x : Result (Unit {0}) Fault) (y : Y) (e : FontFault) → IfSome (font_fault e) (λ f. x ≡ Err f)
-    → IfSome (font_fault e) (λ f. (x >>= λ u. Ok y) ≡ Err f)
-chain_stops x y (font.Font f) fails = rw fails refl
-chain_stops x y font.Memory fails = tt
-
 pub units_stop : (face : Face) (a : Job) (e : FontFault) (line : List (ℕ × ℕ))
     → IfSome (font_fault e) (λ f. (advances_tested face (text_glyphs face.cmap a.text) >>= λ u. Ok line) ≡ Err f)
     → IfSome (refusal (draw_fault_of_font e)) (λ r. placed_by_units face a ≡ Err r)

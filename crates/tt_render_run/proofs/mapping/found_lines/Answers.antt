@@ -2,14 +2,14 @@ use Rattle.std.proofs.Common.{◌≡◌, ◌∙◌, ◌<◌, List, [], chars, re
 use Rattle.std.proofs.lemmas.List.{flat_map_more}
 use Rattle.std.proofs.lemmas.Result.{err_from_is_err_and}
 use Rattle.tt_advances.proofs.Advances.{found_whole}
-use Rattle.tt_advances.proofs.Finding.{tables_refuse, tables_tell, tested_by}
+use Rattle.tt_advances.proofs.Finding.{tables_refuse, tables_tell, test_tells, tested_by}
 use Rattle.tt_advances.specs.Found.{advances_tested, all_found, glyph_units, units_of}
 use Rattle.tt_cmap.specs.Maps.{glyph_of_unit, units_by}
 use Rattle.tt_line.proofs.Walks.{at-the-end, goes-on}
 use Rattle.tt_line.specs.Layout.{text_glyphs}
 use Rattle.tt_metrics.specs.Metrics.{glyphs_of}
 use Rattle.tt_render_run.specs.MapLines.{map_line}
-use Rattle.tt_render_run.proofs.Mapped.{found_next, found_stops, none_left, one_tells, tested_lines, units_found, untested_lines}
+use Rattle.tt_render_run.proofs.Mapped.{found_next, found_stops, none_left, tested_lines, units_found, untested_lines}
 use Rattle.tt_render_run.proofs.mapping.found_lines.Goals.{After-glyph_of_unit-number, In_None}
 use Rattle.tt_render_run.proofs.mapping.found_lines.Goals as goal
 
@@ -87,7 +87,7 @@ returns-in_err-units-clause-defects c =
     let fails = rw (was.face, glyph) at c.in_err-units.ensures.exact in
     let stops = found_stops found (glyph_of_unit face.cmap) (all_found found gs) c.loop-unit.unit-iterator _ c.in-Some.unit e was.tested
     c.in-Some.ensures.steps fails in
-    rw (p.1, p.2) (one_tells face gs t e c.requires was.there stops)
+    rw (p.1, p.2) (test_tells face t gs e c.requires was.there stops)
 
 -- all advances are found
 tested_then : (c : In_None) → advances_tested c.args.face.now (text_glyphs c.args.face.now.cmap c.args.text.now) ≡ Ok tt

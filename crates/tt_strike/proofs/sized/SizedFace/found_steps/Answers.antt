@@ -2,13 +2,13 @@ use Rattle.std.proofs.Common.{◌≡◌, ◌∙◌, ap, ℕ, List, length, map, 
 use Rattle.std.proofs.lemmas.List.{length-map, with_items_is}
 use Rattle.std.proofs.lemmas.Result.{err_from_is_err_and}
 use Rattle.std.specs.Vec.{with_items}
+use Rattle.tt_advances.proofs.Finding.{then_value}
 use Rattle.tt_advances.specs.Found.{advances_tested, units_of}
 use Rattle.tt_advances.specs.Lines.{advance_line, advance_step}
 use Rattle.tt_line.specs.Layout.{text_glyphs}
 use Rattle.tt_line.specs.Steps.{stepped}
 use Rattle.tt_line.proofs.Stepped.{firsts, known_alike, length-stepped, numbers_beside}
 use Rattle.tt_metrics.specs.Metrics.{glyphs_of}
-use Rattle.tt_strike.proofs.Stopped.{chain_stops}
 use Rattle.tt_strike.proofs.sized.SizedFace.found_steps.Goals.{After-put_unit_steps, In_ok-find_units}
 use Rattle.tt_strike.proofs.sized.SizedFace.found_steps.Goals as goal
 
@@ -24,7 +24,7 @@ returns-in_err-find_units-clause-exact c =
     let gs = text_glyphs z.face.cmap c.args.text.now in
     let p = err_from_is_err_and c.from_residual-in_err-find_units.result c.from_residual-in_err-find_units.ensures.1 in
     let fails = rw (c.face-face.ensures, c.deref_mut.ensures.value, c.in_ok-steps.ensures.glyphs) at c.in_err-find_units.ensures.exact in
-    rw (p.1, p.2) (chain_stops (advances_tested z.face gs) (advance_line z.face z.ppem gs) c.in_err-find_units.field-0.0 fails)
+    rw (p.1, p.2) (then_value (advances_tested z.face gs) (advance_line z.face z.ppem gs) c.in_err-find_units.field-0.0 fails)
 
 pub returns-in_err-find_units-clause-defects : goal.returns-in_err-find_units-clause-defects
 returns-in_err-find_units-clause-defects c =
