@@ -1,15 +1,17 @@
-use Rattle.std.proofs.Common.{◌≡◌, ◌∙◌, ◌+◌, ◌<◌, ◌≤◌, List, ◌∷◌, Vec, Global, Ok, drop, get_or, length, map, refl, sym, take, arith}
+use Rattle.std.proofs.Common.{◌≡◌, ◌∙◌, ◌+◌, ◌<◌, ◌≤◌, ℕ, true, List, ◌∷◌, Vec, Global, Ok, drop, get_or, length, map, refl, sym, take, arith}
 use Rattle.std.proofs.lemmas.List.{drop_all, drop_more, map_push, take_all, take_more}
 use Rattle.std.proofs.lemmas.Result.{err_from_is_err_and}
 use Rattle.tt_advances.proofs.Advances.{found_whole}
 use Rattle.tt_advances.proofs.Finding.{after_test, before_value, lists_pass, lists_stop, tables_refuse, tables_tell, test_tells, tested_by, then_value}
 use Rattle.tt_advances.specs.Found.{advances_tested, all_found, glyph_units}
 use Rattle.tt_advances.specs.Lines.{advance_step}
+use Rattle.tt_face.specs.Faces.{Face, finds_advances, glyphs_in}
+use Rattle.tt_glyf.specs.Loca.{Glyf}
 use Rattle.tt_label.proofs.FoundLines.{row_alike}
 use Rattle.tt_label.proofs.UnitGlyphs.{its_units}
 use Rattle.tt_label_rows.specs.Units.{all_glyphs, stepped_units, unit_glyphs}
 use Rattle.tt_rows.specs.declared.unit.RowUnit.{RowUnit}
-use Rattle.tt_label.proofs.finding.found_rows.Goals.{After-line-item, In_None}
+use Rattle.tt_label.proofs.finding.found_rows.Goals.{After-line-item}
 use Rattle.tt_label.proofs.finding.found_rows.Goals as goal
 
 abbrev Row : Type 0
@@ -118,22 +120,25 @@ returns-in_err-found_row-clause-defects c =
     rw (p.1, p.2) (test_tells face at.found.tables all e c.requires.finds was.there stops)
 
 -- all advances are found
-tested_then : (c : In_None) → advances_tested c.args.face.now (all_glyphs (its_units c.args.lines.now)) ≡ Ok tt
-tested_then c =
-    let at = c.loop-line in
-    let face = c.args.face.now in
-    let lines = c.args.lines.now in
-    let over : length lines ≤ at.line-index = omega (arith, c.loop-line-test.false) in
-    tested_by face at.found.tables (all_glyphs (its_units lines)) c.requires.finds at.invariant.there
-    ∙ rw (drop_all at.line-index lines over) at at.invariant.tested
+tested_all : (face : Face) (t : Glyf) (lines : List Row) (i : ℕ) → finds_advances face ≡ true → glyphs_in face ≡ Ok t → length lines ≤ i
+    → all_found (glyph_units face.instance face.metrics t) (all_glyphs (its_units lines))
+    ≡ all_found (glyph_units face.instance face.metrics t) (all_glyphs (its_units (drop i lines)))
+    → advances_tested face (all_glyphs (its_units lines)) ≡ Ok tt
+tested_all face t lines i finds there over tested =
+    tested_by face t (all_glyphs (its_units lines)) finds there ∙ rw (drop_all i lines over) at tested
 
 pub returns-clause-exact : goal.returns-clause-exact
 returns-clause-exact c =
+    let at = c.loop-line in
     let lines = c.args.lines.now in
-    let over : length lines ≤ c.loop-line.line-index = omega (arith, c.loop-line-test.false) in
-    let made = rw (take_all c.loop-line.line-index lines over) at c.loop-line.invariant.made in
-    rw (tested_then (goal.at.returns-clause-exact c).In_None, made) refl
+    let over : length lines ≤ at.line-index = omega (arith, c.loop-line-test.false) in
+    let made = rw (take_all at.line-index lines over) at at.invariant.made in
+    rw (tested_all c.args.face.now at.found.tables lines at.line-index c.requires.finds at.invariant.there over at.invariant.tested, made) refl
 
 pub returns-clause-defects : goal.returns-clause-defects
 returns-clause-defects c =
-    found_whole c.args.face.now (all_glyphs (its_units c.args.lines.now)) (tested_then (goal.at.returns-clause-defects c).In_None)
+    let at = c.loop-line in
+    let lines = c.args.lines.now in
+    let over : length lines ≤ at.line-index = omega (arith, c.loop-line-test.false) in
+    found_whole c.args.face.now (all_glyphs (its_units lines))
+    (tested_all c.args.face.now at.found.tables lines at.line-index c.requires.finds at.invariant.there over at.invariant.tested)
