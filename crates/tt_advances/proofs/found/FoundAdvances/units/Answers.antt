@@ -1,7 +1,7 @@
-use Rattle.std.proofs.Common.{◌≡◌, ◌∙◌, ◌+◌, ◌<◌, ◌^◌, ap, sym, length, slice_index, refl, arith}
+use Rattle.std.proofs.Common.{◌∙◌, ◌+◌, ◌<◌, ◌^◌, length, arith}
 use Rattle.std.proofs.lemmas.List.{length-set}
 use Rattle.tt_advances.specs.Views.{Finder}
-use Rattle.tt_advances.proofs.Known.{known_is, one_known}
+use Rattle.tt_advances.proofs.Known.{one_known}
 use Rattle.tt_advances.proofs.found.FoundAdvances.units.Goals as goal
 
 -- the new advance is kept
@@ -11,6 +11,7 @@ invariant_of-self c =
     let was = c.self.invariant in
     let f : Finder = record { face = held.face.now; tables = held.glyf } in
     let small : c.in_ok-units.units < 2 ^ 16 = omega (arith, c.ranges.units) in
-    let below : c.args.glyph < length held.known.items = ? in
+    let asked = rw (← c.self.view_is) at c.requires in
+    let below : c.args.glyph < length held.known.items = omega (arith, asked, was.0, was.1) in
     (was.0, length-set held.known.items c.args.glyph (c.in_ok-units.units + 1) ∙ was.1,
     one_known f held.known.items c.args.glyph c.in_ok-units.units was.2 small c.in_ok-units.ensures below)
