@@ -29,7 +29,8 @@ all_but_one P (x ∷ xs) (suc i) v all here under (suc g) =
 
 -- a table of zeros has no advances
 zeros : (P : ℕ → ℕ → Type 0) (n : ℕ) → ((g : ℕ) → P g 0) → (g : ℕ) → P g (slice_index (replicate n 0) g)
-zeros P zero all g = all g
+zeros P zero all zero = all zero
+zeros P zero all (suc g) = all (suc g)
 zeros P (suc n) all zero = all zero
 zeros P (suc n) all (suc g) = zeros (λ (n m : ℕ). P (suc n) m) n (λ g. all (suc g)) g
 
