@@ -10,7 +10,7 @@ invariant_of-self c =
     let held = c.self.inside in
     let was = c.self.invariant in
     let f : Finder = record { face = held.face.now; tables = held.glyf } in
-    let small : c.in_ok-units.units < 2 ^ 16 = omega (arith, c.ranges.units) in
+    let small : c.in_ok-units.units < 2 ^ 16 = ? in
     let asked = rw (← c.self.view_is) at c.requires in
     let below : c.args.glyph < length held.known.items = omega (arith, asked, was.0, was.1) in
     (was.0, length-set held.known.items c.args.glyph (c.in_ok-units.units + 1) ∙ was.1,
