@@ -1,4 +1,4 @@
-use Rattle.std.proofs.Common.{◌≡◌, ◌∙◌, refl, ap, ℕ, ◌+◌, ◌<◌, ◌≤◌, ◌^◌, List, All, Result, Ok, drop, get_or, length, set, take, arith}
+use Rattle.std.proofs.Common.{◌≡◌, ◌∙◌, refl, ap, ℕ, ◌+◌, ◌<◌, ◌≤◌, ◌^◌, List, All, Result, Ok, drop, get_or, length, set, take, arith, rules}
 use Rattle.std.proofs.lemmas.List.{drop-set-lt, length-set, take_all, take_more_set}
 use Rattle.std.proofs.lemmas.List.Elements.{All-nil, All-push}
 use Rattle.std.proofs.lemmas.Result.{err_from_is_err_and}
@@ -23,7 +23,7 @@ loop-i-preserved c =
     let read : get_or line i (0, 0) ≡ get_or ps i (0, 0) = first_left line ps i was.rest under below in
     let is : found (get_or ps i (0, 0)).0 ≡ Ok c.in_ok-units.units = rw (was.same, read) at c.in_ok-units.ensures.exact in
     let next = one_more_tested found ps i (all_found found (numbers ps)) below was.tested in
-    let small : c.in_ok-units.units < 2 ^ 16 = rw c.in_ok-units.was at c.units.type_inv in
+    let small : c.in_ok-units.units < 2 ^ 16 = search rules in
     rw c.from.ensures (record {
       same = c.in_ok-units.ensures.same ∙ was.same;
       count = length-set line i _ ∙ was.count;
