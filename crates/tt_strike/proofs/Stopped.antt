@@ -117,8 +117,8 @@ pub asked_much : (how : Fit) (s : Fitter) (gs : List ℕ) (j : JobFault) → ask
     → (j ≡ job_of.WorkLarge) × (is_bounded how ≡ true) × AsksTooMuch s gs
 unfolding counts_tested
 asked_much how s gs j refused = elim (was-err (work_tested how point_work_limit (points_in s gs)) _ j refused) [
-  | inl first ↦ let parts = too_much how point_work_limit (points_in s gs) j first in (parts.0, (parts.1, inl parts.2))
-  | inr later ↦ let parts = too_much how delta_limit (deltas_in s gs) j later.rest in (parts.0, (parts.1, inr parts.2))
+  | inl first ↦ let parts = too_much how point_work_limit (points_in s gs) j first in (parts.0, parts.1, inl parts.2)
+  | inr later ↦ let parts = too_much how delta_limit (deltas_in s gs) j later.rest in (parts.0, parts.1, inr parts.2)
 ]
 
 pub edges_tell : (face : Face) (a : Job) (l : Placement) (s : Fitter) (glyphs : List Shape) (j : JobFault)
@@ -153,14 +153,18 @@ abbrev pub RefusesExtent : Face → Job → JobFault → Type 0
 RefusesExtent face a j = IsOkAnd (advances_tested face (text_glyphs face.cmap a.text))
     (λ u. IsRefusal (advance_extent face a.ppem a.margin (text_glyphs face.cmap a.text)) j)
 
+no_such : {X E : Type 0} (r : Result X E) → IsOkAnd r (λ x. ⊥) → ⊥
+no_such (Ok x) never = never
+no_such (Err e) never = absurd never
+
 -- a refused extent is a refusal of the line by its font
 pub extent_tells : (face : Face) (a : Job) (j : JobFault) → is_bounded a.fit ≡ false → RefusesExtent face a j → IsLineRefusal face a j
-extent_tells face a job_of.SizeRange other stands = absurd stands
-extent_tells face a job_of.TextLong other stands = absurd stands
+extent_tells face a job_of.SizeRange other stands = absurd (no_such (advances_tested face (text_glyphs face.cmap a.text)) stands)
+extent_tells face a job_of.TextLong other stands = absurd (no_such (advances_tested face (text_glyphs face.cmap a.text)) stands)
 extent_tells face a job_of.EmptyPicture other stands = rw other stands
 extent_tells face a job_of.PictureLarge other stands = rw other stands
-extent_tells face a job_of.MarginRange other stands = absurd stands
-extent_tells face a job_of.WorkLarge other stands = absurd stands
+extent_tells face a job_of.MarginRange other stands = absurd (no_such (advances_tested face (text_glyphs face.cmap a.text)) stands)
+extent_tells face a job_of.WorkLarge other stands = absurd (no_such (advances_tested face (text_glyphs face.cmap a.text)) stands)
 
 -- so is that by the advances of the tables
 plain_refuses : (face : Face) (a : Job) (j : JobFault) → finds_advances face ≡ false
