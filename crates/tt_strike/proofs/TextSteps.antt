@@ -1,5 +1,5 @@
 -- The steps of a text and what is made of them, its size and its pens: where each stops, and what each is.
-use Rattle.std.proofs.Common.{◌≡◌, ◌∙◌, refl, sym, ap, ℕ, ◌+◌, ◌*◌, ◌≤◌, Bool, true, false, ◌||◌, ◌==◌, if◌then◌else◌, nat_lt, ℤ, pos, ◌+ℤ◌, int_lt, unsigned_abs, List, chars, map, sum, Result, Ok, Err, inr, arith}
+use Rattle.std.proofs.Common.{◌≡◌, ◌∙◌, refl, sym, ap, ℕ, ◌+◌, ◌*◌, ◌≤◌, Bool, true, false, ◌||◌, ◌==◌, if◌then◌else◌, nat_lt, ℤ, pos, ◌+ℤ◌, int_lt, unsigned_abs, List, chars, map, sum, Result, Ok, Err, inr, subst, arith}
 use Rattle.std.specs.Prelude.{IfSome}
 use Rattle.std.proofs.lemmas.Int.{ints}
 use Rattle.tt_cmap.specs.Maps.{units_by}
@@ -145,11 +145,13 @@ layout_is_line face a gs f stands = line_by (is_bounded a.fit) face a gs f refl 
 -- where work is bounded the two are the same, and elsewhere it is one of the advances
 pub bounded_tells : {V : Type 0} (face : Face) (a : Job) (gs : List ℕ) (r : Result V DrawFault) → is_bounded a.fit ≡ true
     → TellsDefects draw_font_fault (IsLineDefect face a gs) r → TellsDefects draw_font_fault (HasLayoutDefect face a gs) r
-bounded_tells face a gs r bounded tells = rw bounded tells
+bounded_tells face a gs r bounded tells =
+    subst (λ (b : Bool). TellsDefects draw_font_fault (LayoutDefectBy b face a gs) r) (sym bounded) tells
 
 pub unbounded_tells : {V : Type 0} (face : Face) (a : Job) (gs : List ℕ) (r : Result V DrawFault) → is_bounded a.fit ≡ false
     → TellsDefects draw_font_fault (IsAdvanceDefect face gs) r → TellsDefects draw_font_fault (HasLayoutDefect face a gs) r
-unbounded_tells face a gs r other tells = rw other tells
+unbounded_tells face a gs r other tells =
+    subst (λ (b : Bool). TellsDefects draw_font_fault (LayoutDefectBy b face a gs) r) (sym other) tells
 
 -- a text whose glyphs are made, whatever their pens, has no defect
 pub sound_line : (face : Face) (a : Job) (s : Fitter) (gs : List ℕ) (line : List (ℕ × ℕ)) (shapes : List Shape)

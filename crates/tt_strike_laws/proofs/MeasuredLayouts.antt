@@ -21,7 +21,7 @@ use Rattle.tt_strike.specs.Job.{Job, tested}
 use Rattle.tt_strike_laws.specs.LayoutLaws.{LaidOutAsMeasured, IsMeasuredPen, pen_in}
 use Rattle.tt_strike.specs.Layouts.{layout_by, pens_at, steps_outcome}
 use Rattle.tt_strike.specs.Measures.{Measure, line_ink, line_step, measured}
-use Rattle.tt_strike.specs.Picture.{advance_with, frame_of, laid_out, made_line, outlines_tested, placed_by_steps, setting_in, steps_in, text_placed}
+use Rattle.tt_strike.specs.Picture.{advance_with, frame_of, laid_out, made_line, outlines_tested, placed_by_steps, placed_by_units, setting_in, steps_in, text_placed}
 use Rattle.tt_strike.specs.Refusals.{Refused, as_font, as_job}
 use Rattle.tt_strike_laws.specs.StepLaws.{character_in}
 use Rattle.tt_strike.specs.Work.{is_bounded}
@@ -47,7 +47,7 @@ chained (Err e) f g h k same = refl
 
 placed_as : (bounded : Bool) (face : Face) (a : Job) → is_bounded a.fit ≡ bounded
     → text_placed face a ≡ (steps_outcome face a >>= line_by face a)
-unfolding text_placed placed_by_steps steps_outcome placement
+unfolding text_placed placed_by_steps placed_by_units steps_outcome
 placed_as true face a is =
     let gs = text_glyphs face.cmap a.text in
     let by : List ℕ → Result Placement Refused = λ ns. as_job (laid_at face.metrics a.ppem a.margin gs ns) in
@@ -56,7 +56,7 @@ placed_as true face a is =
 placed_as false face a is =
     let gs = text_glyphs face.cmap a.text in
     let by : List ℕ → Result Placement Refused = λ ns. as_job (laid_at face.metrics a.ppem a.margin gs ns) in
-    rw is refl
+    rw is (later (as_font (advances_tested face gs)) (tables.advance_line face a.ppem gs) (line_by face a) (by (tables.advance_steps face a.ppem gs)) refl)
 
 -- the size of a line that is laid out
 by_extent : (m : Metrics) (ppem margin : ℕ) (gs ss : List ℕ) (l : Placement) (e : PictureExtent)

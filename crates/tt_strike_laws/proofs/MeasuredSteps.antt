@@ -9,7 +9,7 @@ use Rattle.tt_fit.specs.Fitting.{Fitter}
 use Rattle.tt_line.specs.Laws.{ArePens, StepsLead}
 use Rattle.tt_line.specs.Layout.{Placement, depth_of, laid_at, placement, rise_of, text_glyphs}
 use Rattle.tt_line.specs.Steps.{kerning_before, linear_line, linear_steps, step_in_pixels, stepped}
-use Rattle.tt_line.proofs.Stepped.{length-stepped, no-table}
+use Rattle.tt_line.proofs.Stepped.{length-stepped, unkerned_before}
 use Rattle.tt_metrics.specs.Metrics.{Metrics}
 use Rattle.tt_strike.specs.declared.measuring.CharacterMeasure.{CharacterMeasure}
 use Rattle.tt_strike.specs.Job.{Job}
@@ -122,8 +122,7 @@ character_is face a m is i below =
 
 -- the step of a glyph without kerning depends on its number alone
 unkerned : (m : Metrics) (g : ℕ) (gs : List ℕ) → m.kerning ≡ None → kerning_before m g gs ≡ pos 0
-unkerned m g [] off = refl
-unkerned m g (h ∷ hs) off = no-table m g h (inl off)
+unkerned m g gs off = unkerned_before m g gs off
 
 unkerned_step : (m : Metrics) (step : ℕ → ℤ → ℕ) (gs : List (ℕ × ℕ)) (i : ℕ) → m.kerning ≡ None
     → step_at m step gs i ≡ step (get_or gs i (0, 0)).0 (pos 0)

@@ -79,7 +79,7 @@ others_fill_none laws face a line s glyphs other is fitted =
     let by_tables = came-through (glyphs_in face) _ s is in
     let by_programs = came-through (programs_in face a.fit) _ s by_tables.rest in
     let all = map (λ g. g.0) line.glyphs in
-    let none = laws.none face.metrics by_tables.value by_programs.value a.ppem a.fit s in
+    let none = laws.none face.metrics by_tables.value by_programs.value face.instance a.ppem a.fit s in
     all_unfilled (line_fitter s all) line.glyphs glyphs
     (λ g unfitted o. kept_for laws (started s all) (distinct all) g unfitted o ∙ none unfitted o other by_programs.rest) fitted
 
