@@ -8,7 +8,7 @@ use Rattle.tt_fit.specs.Fitting.{Fitter, fitted_outline, unfitted_fault}
 use Rattle.tt_fit.specs.outline.Outline.{Outline}
 use Rattle.tt_fit.specs.outline.Steps.{advance_left, step_of}
 use Rattle.tt_advances.proofs.Advances.{units_by_tables}
-use Rattle.tt_advances.specs.Found.{or_zero, units_of}
+use Rattle.tt_advances.specs.Found.{face_units, glyph_units, or_zero, units_of}
 use Rattle.tt_line.specs.Layout.{units_in_pixels}
 use Rattle.tt_metrics.specs.Metrics.{Metrics}
 use Rattle.tt_picture.specs.Ink.{glyph_ink, ink_by}
@@ -163,7 +163,10 @@ either b x y v w first other = rw (first, other) refl
 -- the advance by the tables of the source is that by the fitter
 units_is : (z : FitterSource) (s : Fitter) (g : ℕ) → IsSourceOf z s → units_of z.face.now g ≡ fitter_units s g
 unfolding units_of
-units_is z s g of = ap or_zero (units_by_tables z.face.now s.tables g of.tables ∙ rw (of.metrics, of.instance) refl)
+units_is z s g of =
+    let by : face_units z.face.now g ≡ glyph_units z.face.now.instance z.face.now.metrics s.tables g = units_by_tables z.face.now s.tables g of.tables in
+    let same : glyph_units z.face.now.instance z.face.now.metrics s.tables g ≡ glyph_units s.instance s.metrics s.tables g = rw (of.metrics, of.instance) refl in
+    ap or_zero (by ∙ same)
 
 linear_is : (z : FitterSource) (s : Fitter) (g : ℕ) → IsSourceOf z s
     → units_in_pixels z.face.now.metrics z.ppem (units_of z.face.now g) ≡ units_in_pixels s.metrics s.ppem (fitter_units s g)
@@ -249,7 +252,7 @@ large_drawn how s g p e at by large =
 abbrev made_as : FitterSource → Fit → ℕ → InkPlace → EdgedOutline → Told
 made_as z how g p e =
     told.Made (record {
-      advance = advance_of z.face.now.metrics z.ppem how g e.step;
+      advance = advance_of z.face.now z.ppem how g e.step;
       advance_left = e.advance_left;
       place = p;
       unfitted = e.unfitted;
