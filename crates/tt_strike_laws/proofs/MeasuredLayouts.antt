@@ -5,6 +5,8 @@ use Rattle.tt_cmap.specs.declared.units.TextUnit.{TextUnit}
 use Rattle.tt_cmap.specs.Maps.{units_by}
 use Rattle.tt_core.specs.Chains.{came-through}
 use Rattle.tt_core.specs.Outcomes.{◌>>=◌}
+use Rattle.tt_advances.specs.Found.{advances_tested}
+use Rattle.tt_advances.specs.Lines as tables
 use Rattle.tt_face.specs.Faces.{Face}
 use Rattle.tt_fit.specs.Fitting.{Fitter}
 use Rattle.tt_line.specs.declared.extent.PictureExtent.{PictureExtent}
@@ -19,7 +21,7 @@ use Rattle.tt_strike.specs.Job.{Job, tested}
 use Rattle.tt_strike_laws.specs.LayoutLaws.{LaidOutAsMeasured, IsMeasuredPen, pen_in}
 use Rattle.tt_strike.specs.Layouts.{layout_by, pens_at, steps_outcome}
 use Rattle.tt_strike.specs.Measures.{Measure, line_ink, line_step, measured}
-use Rattle.tt_strike.specs.Picture.{advance_with, frame_of, laid_out, made_line, outlines_tested, placed_by_steps, setting_in, steps_in, text_placed}
+use Rattle.tt_strike.specs.Picture.{advance_with, frame_of, laid_out, made_line, outlines_tested, placed_by_steps, placed_by_units, setting_in, steps_in, text_placed}
 use Rattle.tt_strike.specs.Refusals.{Refused, as_font, as_job}
 use Rattle.tt_strike_laws.specs.StepLaws.{character_in}
 use Rattle.tt_strike.specs.Work.{is_bounded}
@@ -45,7 +47,7 @@ chained (Err e) f g h k same = refl
 
 placed_as : (bounded : Bool) (face : Face) (a : Job) → is_bounded a.fit ≡ bounded
     → text_placed face a ≡ (steps_outcome face a >>= line_by face a)
-unfolding text_placed placed_by_steps steps_outcome placement
+unfolding text_placed placed_by_steps placed_by_units steps_outcome
 placed_as true face a is =
     let gs = text_glyphs face.cmap a.text in
     let by : List ℕ → Result Placement Refused = λ ns. as_job (laid_at face.metrics a.ppem a.margin gs ns) in
@@ -54,7 +56,7 @@ placed_as true face a is =
 placed_as false face a is =
     let gs = text_glyphs face.cmap a.text in
     let by : List ℕ → Result Placement Refused = λ ns. as_job (laid_at face.metrics a.ppem a.margin gs ns) in
-    rw is refl
+    rw is (later (as_font (advances_tested face gs)) (tables.advance_line face a.ppem gs) (line_by face a) (by (tables.advance_steps face a.ppem gs)) refl)
 
 -- the size of a line that is laid out
 by_extent : (m : Metrics) (ppem margin : ℕ) (gs ss : List ℕ) (l : Placement) (e : PictureExtent)
@@ -84,12 +86,13 @@ steps_told true face a s l gs is there numbers was =
     let those = ok_same (made_line face.metrics a.ppem t ns) gs by_outlines.rest in
     let own : ℕ → ℤ → ℕ = λ g k. kerned_step face.metrics a.ppem (advance_with s (map (λ g. g.0) l.glyphs) g) k in
     let told : stepped face.metrics own ns ≡ made_line face.metrics a.ppem t ns = rw (same, numbers) refl in
-    sym those ∙ sym told ∙ sym (own_steps (is_bounded a.fit) face.metrics own (step_in_pixels face.metrics a.ppem) ns is)
+    sym those ∙ sym told ∙ sym (own_steps (is_bounded a.fit) face.metrics own (tables.advance_step face a.ppem) ns is)
 steps_told false face a s l gs is there numbers was =
     let ns = text_glyphs face.cmap a.text in
-    let those = ok_same (linear_line face.metrics a.ppem ns) gs (rw is at was) in
+    let by_test = came-through (as_font (advances_tested face ns)) _ gs (rw is at was) in
+    let those = ok_same (tables.advance_line face a.ppem ns) gs by_test.rest in
     let own : ℕ → ℤ → ℕ = λ g k. kerned_step face.metrics a.ppem (advance_with s (map (λ g. g.0) l.glyphs) g) k in
-    sym those ∙ sym (advance_steps (is_bounded a.fit) face.metrics own (step_in_pixels face.metrics a.ppem) ns is)
+    sym those ∙ sym (advance_steps (is_bounded a.fit) face.metrics own (tables.advance_step face a.ppem) ns is)
 
 -- what a pen tells of its unit
 pens_tell : (us : List TextUnit) (gs : List (ℕ × ℕ)) (pen i : ℕ) → i < length (pens_at us gs pen)

@@ -22,7 +22,7 @@ use Rattle.tt_picture.specs.Shapes.{shape_at, glyph_shape}
 use Rattle.tt_strike.specs.Picture.{setting, setting_in, frame_of, shapes_in, points_tested, edges_tested, line_shapes, drawn, pictured, pictured_by, text_placed}
 use Rattle.tt_picture.specs.Pixels.{Shape, is_black_pixel, some_black}
 use Rattle.tt_face.specs.Faces.{Face, glyphs_in}
-use Rattle.tt_face.specs.Files.{face_with}
+use Rattle.tt_face.specs.Instance.{face_at_instance}
 use Rattle.tt_strike.specs.Programs.{programs_in}
 use Rattle.tt_strike.specs.Work.{line_fitter, started}
 use Rattle.tt_picture.proofs.Alike.{image_alike}
@@ -79,7 +79,7 @@ others_fill_none laws face a line s glyphs other is fitted =
     let by_tables = came-through (glyphs_in face) _ s is in
     let by_programs = came-through (programs_in face a.fit) _ s by_tables.rest in
     let all = map (λ g. g.0) line.glyphs in
-    let none = laws.none face.metrics by_tables.value by_programs.value a.ppem a.fit s in
+    let none = laws.none face.metrics by_tables.value by_programs.value face.instance a.ppem a.fit s in
     all_unfilled (line_fitter s all) line.glyphs glyphs
     (λ g unfitted o. kept_for laws (started s all) (distinct all) g unfitted o ∙ none unfitted o other by_programs.rest) fitted
 
@@ -119,11 +119,11 @@ line_by_edges laws a i face line other laid was =
 
 pub others_draw_by_edges : FillLaws → OthersDrawByEdges
 unfolding pictured pictured_by
-others_draw_by_edges laws r a file i other was =
-    let by_face = came-through (as_font (face_with file r)) _ i was in
+others_draw_by_edges laws r asked a file i other was =
+    let by_face = came-through (as_font (face_at_instance file r asked)) _ i was in
     let face = by_face.value in
     let by_line = came-through (text_placed face a) _ i by_face.rest in
     let line = by_line.value in
-    let read = of-font (face_with file r) face by_face.first in
+    let read = of-font (face_at_instance file r asked) face by_face.first in
     let P : Result Face Fault → Type 0 = λ opened. IsOkAnd opened (λ face. IsByEdges a face i) in
     subst P (sym read) (line_by_edges laws a i face line other by_line.first by_line.rest)
