@@ -12,6 +12,7 @@ pub mod Places
 pub mod Placing
 pub mod Standing
 pub mod Unbounded
+pub mod Variations
 pub mod Varying
 pub mod WorkApart
 mod Refusing

@@ -10,7 +10,7 @@ use Rattle.tt_core.specs.Outcomes.{◌>>=◌}
 use Rattle.tt_deltas.specs.declared.varied.Varied.{Varied}
 use Rattle.tt_deltas.specs.Units.{moved_sixty_fourths, moved_units}
 use Rattle.tt_fit.specs.Defects.{IsCoordinateDefect, IsOffsetDefect, IsOffsetsDefect, IsPointDefect, IsUnitsDefect, LeavesUnits, PassesEndLimit}
-use Rattle.tt_fit.proofs.Placing.{all-hold, both-hold, either-fails, fits, one-fails, passes}
+use Rattle.tt_fit.proofs.Placing.{both-hold, either-fails, fits, passes}
 use Rattle.tt_fit_outline.specs.Outline.{PhantomPoints}
 use Rattle.tt_fit_outline.specs.Scaling.{coordinate_fault, is_coordinate}
 use Rattle.tt_fit_outline.specs.Size.{FontSize}
@@ -28,6 +28,20 @@ passes-end v is = grind (arith, nat_tests)
 
 fits-end : (v : ℤ) → is_end v ≡ true → PassesEndLimit v → ⊥
 fits-end v is past = grind (arith, nat_tests)
+
+one-fails : (a b c d : Bool) → (a && (b && (c && d))) ≡ false
+    → (a ≡ false) ⊎ (b ≡ false) ⊎ (c ≡ false) ⊎ (d ≡ false)
+one-fails false b c d is = inl refl
+one-fails true false c d is = inr (inl refl)
+one-fails true true false d is = inr (inr (inl refl))
+one-fails true true true d is = inr (inr (inr is))
+
+all-hold : (a b c d : Bool) → (a && (b && (c && d))) ≡ true
+    → (a ≡ true) × (b ≡ true) × (c ≡ true) × (d ≡ true)
+all-hold false b c d is = absurd cc
+all-hold true false c d is = absurd cc
+all-hold true true false d is = absurd cc
+all-hold true true true d is = (refl, refl, refl, is)
 
 abbrev OnePasses : PhantomPoints → Type 0
 OnePasses p = PassesEndLimit p.left.0 ⊎ PassesEndLimit p.right.0 ⊎ PassesEndLimit p.ascent.1 ⊎ PassesEndLimit p.descent.1

@@ -1,6 +1,6 @@
 use Rattle.std.proofs.Common.{refl, rules, SFits, w16, arith}
 use Rattle.std.proofs.lemmas.Int.{to_z-of_z}
-use Rattle.std.proofs.lemmas.List.FromFn.{map-range_with_len_more}
+use Rattle.std.proofs.lemmas.List.FromFn.{length-map-range_with_len, map-range_with_len_more}
 use Rattle.tt_fit.specs.ControlValues.{control_word}
 use Rattle.tt_fit.proofs.control_values.control_words.Goals as goal
 
@@ -13,4 +13,6 @@ loop-i-preserved c =
     rw (pushed, c.loop-i.invariant, c.control_word.ensures, more) refl
 
 pub returns-clause-few : goal.returns-clause-few
-returns-clause-few c = let h = c.loop-i in ?
+returns-clause-few c =
+    rw (c.loop-i.invariant, length-map-range_with_len (control_word c.args.cvt.now) 0 c.loop-i.i)
+    (omega (arith, c.loop-i.auto.i-end, c.control_count-count.ensures.bound))
