@@ -17,16 +17,16 @@ returns-clause-exact c =
     let d = composite_view c.args.data in
     let v = glyph_view c.in_ok-deltas.deltas in
     let deltas : composite_deltas i.gvar i.coordinates c.args.g d.records ≡ Ok v =
-        rw (c.variation.ensures.gvar, c.variation.ensures.coordinates, c.deref.ensures.value)
-        at c.in_ok-deltas.ensures.exact in
+    rw (c.variation.ensures.gvar, c.variation.ensures.coordinates, c.deref.ensures.value)
+    at c.in_ok-deltas.ensures.exact in
     let x_min : SFits w16 c.args.data.x_min = search rules in
     let starts : whole_start s d.x_min c.args.g (length d.records) v ≡ Ok (outline_of c.in_ok-start.start) =
-        rw (c.in_ok-deltas.ensures.count, c.deref.ensures.value) at (simp to_z-of_z at c.in_ok-start.ensures.exact) in
+    rw (c.in_ok-deltas.ensures.count, c.deref.ensures.value) at (simp to_z-of_z at c.in_ok-start.ensures.exact) in
     let moves : moved_records d.records v.xs v.ys ≡ Ok c.in_ok-records.records.items =
-        rw (c.deref-2.ensures.value, c.deref-3.ensures.value, c.deref-4.ensures.value)
-        at c.in_ok-records.ensures.exact in
+    rw (c.deref-2.ensures.value, c.deref-3.ensures.value, c.deref-4.ensures.value)
+    at c.in_ok-records.ensures.exact in
     let done = composite_done i s c.args.g d v (outline_of c.in_ok-start.start) c.in_ok-records.records.items deltas
-        starts moves in
+    starts moves in
     rw (done, c.composite_begun.ensures.exact) refl
 
 pub returns-clause-known : goal.returns-clause-known
