@@ -1,5 +1,5 @@
 -- The picture, the report and the measure of a line whose glyphs are made and not refused.
-use Rattle.std.proofs.Common.{◌≡◌, refl, ap, ℕ, ℤ, Bool, true, false, if◌then◌else◌, List, get_or, map, Ok}
+use Rattle.std.proofs.Common.{◌≡◌, ◌<◌, refl, ap, ℕ, ℤ, Bool, true, false, if◌then◌else◌, List, [], ◌∷◌, get_or, map, Ok}
 use Rattle.std.specs.Prelude.{All}
 use Rattle.std.proofs.lemmas.List.Elements.{All-head, All-map, All-nil, All-push, All-tail}
 use Rattle.tt_metrics.specs.Metrics.{glyphs_of}

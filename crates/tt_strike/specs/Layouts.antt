@@ -51,6 +51,10 @@ made_steps face a =
     outlines_tested s a.fit gs >>= λ outlines.
     Ok (made_line face.metrics a.ppem s gs)
 
+-- the glyphs of a line with their steps by advances, once these are tested
+abbrev pub found_line : Face → ℕ → List ℕ → Result (List (ℕ × ℕ)) Fault
+found_line face ppem gs = advances_tested face gs >>= λ u. Ok (advance_line face ppem gs)
+
 -- the glyphs of a text with their steps by advances, which are found
 abbrev pub found_steps : Face → Job → Result (List (ℕ × ℕ)) Refused
 found_steps face a =

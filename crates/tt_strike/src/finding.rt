@@ -2,15 +2,14 @@
 
 ghost use Rattle.std.specs.Prelude.{◌≡◌, ◌<◌, ◌≤◌, true, length, map, chars, All, IfOk, Ok};
 ghost use Rattle.tt_advances.specs.Defects.{IsAdvanceDefect};
-ghost use Rattle.tt_advances.specs.Found.{advances_tested};
-ghost use Rattle.tt_advances.specs.Lines.{advance_line};
 ghost use Rattle.tt_core.specs.Limits.{text_limit};
-ghost use Rattle.tt_core.specs.Outcomes.{◌>>=◌, FontGives, font_fault};
+ghost use Rattle.tt_core.specs.Outcomes.{FontGives, font_fault};
 ghost use Rattle.tt_face.specs.Faces.{finds_advances};
 ghost use Rattle.tt_line.specs.Layout.{text_glyphs};
 ghost use Rattle.tt_line.specs.Steps.{linear_line};
 ghost use Rattle.tt_metrics.specs.Metrics.{glyphs_of};
 ghost use Rattle.tt_strike.specs.Defects.{TellsDefects};
+ghost use Rattle.tt_strike.specs.Layouts.{found_line};
 
 use crate::sized::SizedFace;
 use std::alloc::AllocError;
@@ -25,7 +24,7 @@ impl<'f, 'a> SizedFace<'f, 'a> {
     fn found_steps(&mut self, text: &str) -> Result<Vec<(u16, u32)>, FontFault>
         requires text { length (chars text.now) ≤ text_limit }
         requires finds { finds_advances self.old.face ≡ true }
-        ensures exact { FontGives (λ v. v.items) result (advances_tested self.old.face (text_glyphs self.old.face.cmap text.now) >>= λ u. Ok (advance_line self.old.face self.old.ppem (text_glyphs self.old.face.cmap text.now))) }
+        ensures exact { FontGives (λ v. v.items) result (found_line self.old.face self.old.ppem (text_glyphs self.old.face.cmap text.now)) }
         ensures glyphs { IfOk result (λ v. map (λ g. g.0) v.items ≡ text_glyphs self.old.face.cmap text.now) }
         ensures known { IfOk result (λ v. All (λ g. g.0 < glyphs_of self.old.face.metrics) v.items) }
         ensures few { IfOk result (λ v. length v.items ≤ text_limit) }
@@ -45,7 +44,7 @@ impl<'f, 'a> SizedFace<'f, 'a> {
     /// without HVAR alone; Memory.
     pub(crate) fn unit_steps(&mut self, text: &str) -> Result<Vec<(u16, u32)>, FontFault>
         requires text { length (chars text.now) ≤ text_limit }
-        ensures exact { FontGives (λ v. v.items) result (advances_tested self.old.face (text_glyphs self.old.face.cmap text.now) >>= λ u. Ok (advance_line self.old.face self.old.ppem (text_glyphs self.old.face.cmap text.now))) }
+        ensures exact { FontGives (λ v. v.items) result (found_line self.old.face self.old.ppem (text_glyphs self.old.face.cmap text.now)) }
         ensures glyphs { IfOk result (λ v. map (λ g. g.0) v.items ≡ text_glyphs self.old.face.cmap text.now) }
         ensures known { IfOk result (λ v. All (λ g. g.0 < glyphs_of self.old.face.metrics) v.items) }
         ensures few { IfOk result (λ v. length v.items ≤ text_limit) }

@@ -23,6 +23,6 @@ pub returns-clause-charged : goal.returns-clause-charged
 returns-clause-charged c =
     let points = points_of_all c.args.fitter.now c.args.numbers.now in
     let deltas = deltas_of_all c.args.fitter.now c.args.numbers.now in
-    let first = counted point_work_limit points c.in-Some.points (sym (rw c.in-Some.is at c.in_ok-points_left.ensures)) in
-    let second = counted delta_limit deltas c.in-Some-2.deltas (sym (rw c.in-Some-2.is at c.in_ok-deltas_left.ensures)) in
+    let first = counted point_work_limit points c.in-Some.points (sym (rw c.in-Some.is at c.in_ok-points.ensures)) in
+    let second = counted delta_limit deltas c.in-Some-2.deltas (sym (rw c.in-Some-2.is at c.in_ok-deltas.ensures)) in
     c.charge.ensures ∙ ap₂ (λ (n k : ℕ). charged_fitter c.args.fitter.now (work_of_counts n k)) first second

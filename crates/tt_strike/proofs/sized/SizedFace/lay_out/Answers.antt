@@ -14,13 +14,13 @@ use Rattle.tt_strike.proofs.sized.SizedFace.lay_out.Goals as goal
 -- the text and its margin are tested
 passed : (c : In_ok-test_text) → tested (job_by c.args.self.now c.args.text.now c.args.margin) ≡ Ok tt
 passed c =
-    tested_at c.args.self.now c.args.text.now c.args.margin (rw c.ppem-_ppem.ensures.exact at c.ppem-_ppem.ensures.some) (rw c.ppem-_ppem.ensures.exact at c.ppem-_ppem.ensures.limit)
+    tested_at c.args.self.now c.args.text.now c.args.margin (rw c.ppem-ppem.ensures.exact at c.ppem-ppem.ensures.some) (rw c.ppem-ppem.ensures.exact at c.ppem-ppem.ensures.limit)
     ∙ rw (c.in_ok-test_margin.ensures.exact, c.in_ok-test_text.ensures.exact) refl
 
 pub returns-in_err-test_margin-clause-exact : goal.returns-in_err-test_margin-clause-exact
 returns-in_err-test_margin-clause-exact c =
     let p = err_from_is_err_and c.from_residual.result c.from_residual.ensures.1 in
-    let at = tested_at c.args.self.now c.args.text.now c.args.margin (rw c.ppem-_ppem.ensures.exact at c.ppem-_ppem.ensures.some) (rw c.ppem-_ppem.ensures.exact at c.ppem-_ppem.ensures.limit) in
+    let at = tested_at c.args.self.now c.args.text.now c.args.margin (rw c.ppem-ppem.ensures.exact at c.ppem-ppem.ensures.some) (rw c.ppem-ppem.ensures.exact at c.ppem-ppem.ensures.limit) in
     rw (p.1, p.2, at, c.in_err-test_margin.ensures.exact) refl
 
 pub returns-in_err-test_margin-clause-defects : goal.returns-in_err-test_margin-clause-defects
@@ -37,7 +37,7 @@ returns-in_err-test_margin-clause-job c =
 pub returns-in_err-test_text-clause-exact : goal.returns-in_err-test_text-clause-exact
 returns-in_err-test_text-clause-exact c =
     let p = err_from_is_err_and c.from_residual-in_err-test_text.result c.from_residual-in_err-test_text.ensures.1 in
-    let at = tested_at c.args.self.now c.args.text.now c.args.margin (rw c.ppem-_ppem.ensures.exact at c.ppem-_ppem.ensures.some) (rw c.ppem-_ppem.ensures.exact at c.ppem-_ppem.ensures.limit) in
+    let at = tested_at c.args.self.now c.args.text.now c.args.margin (rw c.ppem-ppem.ensures.exact at c.ppem-ppem.ensures.some) (rw c.ppem-ppem.ensures.exact at c.ppem-ppem.ensures.limit) in
     rw (p.1, p.2, at, c.in_ok-test_margin.ensures.exact, c.in_err-test_text.ensures.exact) refl
 
 pub returns-in_err-test_text-clause-defects : goal.returns-in_err-test_text-clause-defects

@@ -11,14 +11,14 @@ returns-then-is_bounded c =
     let alike : to_z w32 (of_z w32 c.advance_left.result) ≡ c.advance_left.result = simp to_z-of_z refl in
     rw bounded (rw (same, alike, c.metrics-metrics.ensures, c.face.ensures, c.ppem.ensures.exact, c.advance_left.ensures) at c.kerned_step.ensures)
 
-pub own_units-requires-clause-known : goal.own_units-requires-clause-known
-own_units-requires-clause-known c = rw c.number.ensures c.requires.known
+pub own_units-own-requires-clause-known : goal.own_units-own-requires-clause-known
+own_units-own-requires-clause-known c = rw c.number.ensures c.requires.known
 
-pub own_units-requires-clause-unbounded : goal.own_units-requires-clause-unbounded
-own_units-requires-clause-unbounded c = rw (c.is_bounded.ensures, c.fit.ensures) at c.if-is_bounded.false
+pub own_units-own-requires-clause-unbounded : goal.own_units-own-requires-clause-unbounded
+own_units-own-requires-clause-unbounded c = rw (c.is_bounded.ensures, c.fit.ensures) at c.if-is_bounded.false
 
-pub own_units-requires-clause-at : goal.own_units-requires-clause-at
-own_units-requires-clause-at c =
+pub own_units-own-requires-clause-at : goal.own_units-own-requires-clause-at
+own_units-own-requires-clause-at c =
     let other = rw (c.is_bounded.ensures, c.fit.ensures) at c.if-is_bounded.false in
     rw c.number.ensures (c.requires.at other)
 
