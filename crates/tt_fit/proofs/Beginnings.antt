@@ -1,10 +1,9 @@
 -- A glyph that is read cannot be begun exactly for its defects.
-use Rattle.std.proofs.Common.{◌≡◌, ◌≢◌, ℕ, zero, suc, ◌==◌, false, if◌then◌else◌, List, [], ◌∷◌, length, arith, Option, Some, None, Result, Ok, Err, inl, inr, ℤ, pos, refl, subst, sym}
-use Rattle.std.specs.Prelude.{IsOkAnd, ◌⊎◌}
+use Rattle.std.proofs.Common.{◌≡◌, ◌≢◌, ℕ, suc, ◌==◌, false, if◌then◌else◌, List, [], ◌∷◌, length, arith, Option, Some, None, Result, Ok, Err, inl, inr, ℤ, pos, refl, subst, sym}
+use Rattle.std.specs.Prelude.{IsOkAnd}
 use Rattle.std.proofs.lemmas.Bool.Decides.{nat_tests}
 use Rattle.tt_core.specs.Chains.{came-through, was-err}
 use Rattle.tt_core.specs.Faults.{Fault}
-use Rattle.tt_core.specs.Outcomes.{◌>>=◌}
 use Rattle.tt_deltas.specs.Glyphs.{VariedPoints}
 use Rattle.tt_face.specs.Faces.{FaceInstance}
 use Rattle.tt_glyf.specs.Loca.{glyph_offset}

@@ -1,5 +1,5 @@
 -- The place on one axis more.
-use Rattle.std.proofs.Common.{◌≡◌, ap, ℕ, zero, suc, ◌+◌, ◌<◌, ℤ, List, [], ◌∷◌, ◌++◌, length, map, take, refl, arith, add-one}
+use Rattle.std.proofs.Common.{◌≡◌, ap, ℕ, zero, suc, ◌<◌, ℤ, List, [], ◌∷◌, ◌++◌, length, map, take, refl, arith}
 use Rattle.tt_axes.specs.Coordinates.{coordinate_at}
 use Rattle.tt_fit_hinting.specs.state.Instances.{f2dot14}
 

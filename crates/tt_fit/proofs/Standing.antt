@@ -1,6 +1,6 @@
 -- A refused outline has a defect, and an outline has none.
 use Rattle.std.proofs.Common.{◌≡◌, ℕ, zero, suc, List, [], ◌∷◌, take, Some, Result, Ok, Err, inl, inr, refl, subst, sym}
-use Rattle.std.specs.Prelude.{IsOkAnd, ◌⊎◌}
+use Rattle.std.specs.Prelude.{IsOkAnd}
 use Rattle.std.specs.List.{slice_get}
 use Rattle.tt_core.specs.Chains.{came-through, was-err}
 use Rattle.tt_core.specs.Faults.{Fault}

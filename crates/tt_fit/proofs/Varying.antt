@@ -6,7 +6,6 @@ use Rattle.std.proofs.lemmas.Bool.Decides.{nat_tests}
 use Rattle.tt_axes.specs.Rounding.{whole_units}
 use Rattle.tt_core.specs.Chains.{came-through, was-err, passed-else, failed-else}
 use Rattle.tt_core.specs.Faults.{Fault}
-use Rattle.tt_core.specs.Outcomes.{◌>>=◌}
 use Rattle.tt_deltas.specs.declared.varied.Varied.{Varied}
 use Rattle.tt_deltas.specs.Units.{moved_sixty_fourths, moved_units}
 use Rattle.tt_fit.specs.Defects.{IsCoordinateDefect, IsOffsetDefect, IsOffsetsDefect, IsPointDefect, IsUnitsDefect, LeavesUnits, PassesEndLimit}

@@ -8,7 +8,7 @@ use Rattle.tt_core.proofs.Each.{length-each}
 use Rattle.tt_core.specs.Chains.{came-through, passed, passed-else}
 use Rattle.tt_core.specs.Faults.{Fault}
 use Rattle.tt_core.specs.Limits.{point_limit}
-use Rattle.tt_core.specs.Outcomes.{◌>>=◌, each}
+use Rattle.tt_core.specs.Outcomes.{each}
 use Rattle.tt_exec.specs.Parts.{Parts}
 use Rattle.tt_glyf.specs.declared.raw.RawPoint.{RawPoint}
 use Rattle.tt_glyf.specs.declared.raw.Record.{Record}

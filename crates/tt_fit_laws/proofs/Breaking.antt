@@ -13,7 +13,7 @@ use Rattle.tt_tuples.specs.Bytes.{Read, TupleStore, after, broken, byte_in, sign
 use Rattle.tt_tuples.specs.Deltas.{DeltaRun, PackedDelta, delta_passed, delta_run, delta_run_at, deltas_at, deltas_from, next_delta, no_deltas, size_in, sized_delta}
 use Rattle.tt_tuples.specs.declared.source.TupleTable.{TupleTable}
 use Rattle.tt_tuples.specs.declared.source.TupleTable.TheVariants as table
-use Rattle.tt_tuples.specs.Headers.{TupleHeader, header_at, header_place, peak_at, shared_peak, sides_at, taken, tuple_header_at}
+use Rattle.tt_tuples.specs.Headers.{TupleHeader, header_at, header_place, peak_at, sides_at, taken, tuple_header_at}
 use Rattle.tt_tuples.specs.PointNumbers.{NumberRun, TuplePoints, listed, as_listed, count_at, difference_in, listed_at, next_number, no_numbers, number_in, number_run, number_run_at, number_within, numbers_at, numbers_from, points_at}
 use Rattle.tt_tuples.specs.Sources.{Source, Tuple}
 use Rattle.tt_tuples.specs.Tuples.{second_deltas, shared_points_of, tuple_at, tuple_before, tuple_points, tuples_from, tuples_of}

@@ -9,7 +9,7 @@ use Rattle.tt_metrics.specs.Metrics.{Metrics}
 use Rattle.tt_fit.specs.declared.dropouts.DropoutsBy.TheVariants.{Nobody}
 use Rattle.tt_fit.specs.declared.programs.Fit.{Fit}
 use Rattle.tt_fit.specs.declared.programs.Fit.TheVariants as fit
-use Rattle.tt_fit.specs.Fallback.{Fallback, never, where_refused, everywhere, is_program_fault}
+use Rattle.tt_fit.specs.Fallback.{never, where_refused, everywhere, is_program_fault}
 use Rattle.tt_fit.specs.Fitting.{Fitter, with_hinting, outline_at, unfitted_fault, fitted_outline}
 use Rattle.tt_fit.specs.Laws.{HasWork, FallbackFits, FallbackScales, FallbackRefuses, FallbackUnfitsAll, OthersNeverFallBack, FullIsByPrograms, NoneIsWithoutPrograms}
 use Rattle.tt_fit_outline.specs.Outline.{Outline}

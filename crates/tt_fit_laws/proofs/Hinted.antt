@@ -1,5 +1,5 @@
 -- Where hinting is off, and which grid each fit has.
-use Rattle.std.proofs.Common.{◌≡◌, ◌≢◌, ◌∙◌, sym, ap, ℕ, Bool, true, false, if◌then◌else◌, Option, Some, None, Result, Ok, refl, ℤ, List}
+use Rattle.std.proofs.Common.{◌≡◌, ◌≢◌, ◌∙◌, sym, ap, ℕ, Bool, true, false, if◌then◌else◌, Option, Some, None, Result, Ok, refl}
 use Rattle.tt_core.specs.Chains.{came-through}
 use Rattle.tt_core.specs.Faults.{Fault}
 use Rattle.tt_exec.specs.Parts.{Parts}

@@ -5,7 +5,6 @@ use Rattle.std.specs.List.{slice_get}
 use Rattle.tt_core.specs.Faults.{Fault, why_number}
 use Rattle.tt_core.specs.declared.fault.Why.TheVariants as why
 use Rattle.tt_core.specs.Limits.{component_limit, work_limit}
-use Rattle.tt_core.specs.Outcomes.{◌>>=◌}
 use Rattle.tt_exec.specs.Work.{Worked, enough}
 use Rattle.tt_face.specs.Faces.{FaceInstance}
 use Rattle.tt_face.specs.Programs.{ProgramTables}

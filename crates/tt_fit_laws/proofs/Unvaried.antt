@@ -5,7 +5,7 @@ use Rattle.tt_core.specs.Outcomes.{◌>>=◌}
 use Rattle.tt_exec.specs.Work.{Worked, enough, spent, then_work}
 use Rattle.tt_fit.specs.Default as default
 use Rattle.tt_fit.specs.Default.{DefaultsAreUnvaried, DefaultsCostTheSame}
-use Rattle.tt_fit.specs.Fitting.{Begun, Fitter, size_of, start, glyph_grid, simple_start, glyph_program, joined, composite_begun, default_phantom, begun_by_default, begun_glyph, finished, made, outline_by, added, finished_work, made_work, work_by, added_work}
+use Rattle.tt_fit.specs.Fitting.{Fitter, size_of, start, glyph_grid, simple_start, glyph_program, joined, default_phantom, begun_by_default, begun_glyph, finished, made, outline_by, added, finished_work, made_work, work_by, added_work}
 use Rattle.tt_fit.specs.Work.{joined_work}
 use Rattle.tt_fit_hinting.specs.GlyphZone.{GlyphProgram}
 use Rattle.tt_fit_hinting.specs.Hinting.{Hinting, off, ready, hinted}
@@ -15,7 +15,7 @@ use Rattle.tt_fit_outline.specs.Outline.{Outline}
 use Rattle.tt_fit_outline.specs.Scaling.{scaled_outline}
 use Rattle.tt_glyf.specs.GlyphData.{glyph_data_of}
 use Rattle.tt_glyf.specs.Loca.{glyph_offset}
-use Rattle.tt_glyf.specs.Raw.{CompositeGlyph, Raw, SimpleGlyph, empty, simple, composite}
+use Rattle.tt_glyf.specs.Raw.{Raw, empty, simple, composite}
 use Rattle.tt_glyf.specs.declared.raw.Record.{Record}
 
 -- steps in a row
