@@ -1,38 +1,57 @@
 //! The values of pairs at an instance. OpenType, "OpenType Layout Common Table Formats", VariationIndex tables.
 
-ghost use Rattle.std.specs.Prelude.{◌≡◌, ◌+◌, ◌^◌, ◌<◌, ◌≤◌, unsigned_abs};
+ghost use Rattle.std.specs.Prelude.{◌≡◌, ◌+◌, ◌^◌, ◌<◌, ◌≤◌, IfSome, unsigned_abs};
 ghost use Rattle.tt_kern.specs.Reads.{device_reads, if_some, indexes_reads, offset_reads};
-ghost use Rattle.tt_kern.specs.Variation.{device_offset, indexes_of, low_bits, no_variation, varied_advance};
+ghost use Rattle.tt_kern.specs.Variation.{device_offset, indexes_of, low_bits, no_variation, store_of, varied_advance};
 
 use crate::kerning::tally::Tally;
 use crate::words::Words;
 use std::marker::Model;
 use tt_axes::InstanceCoordinates;
-use tt_variation_store::{DeltaSetIndex, VariationStore, pair_value};
+use tt_variation_store::{DeltaSetIndex, StoreAtInstance, VariationStore};
 
 /// The format of a VariationIndex table.
 const VARIATION_INDEX: usize = 0x8000;
 
-/// GDEF's store, and the coordinates of an instance. Without a store no value varies. Clauses see both.
+/// GDEF's store at an instance, and the coordinates. Without a store no value varies. Clauses see the store and the
+/// coordinates.
 #[derive(Drop)]
 pub struct PairVariation<'a> {
-    store: Option<VariationStore<'a>>,
+    store: Option<StoreAtInstance<'a>>,
     coordinates: InstanceCoordinates,
 }
 
 impl<'a> Model for PairVariation<'a> {
+    ghost use Rattle.std.specs.Prelude.{◌≡◌, IfSome};
+    ghost use Rattle.tt_kern.specs.Variation.{store_of};
     ghost use Rattle.tt_kern.specs.Variation as variation;
 
     ghost Value = { variation.PairVariation };
 
-    ghost view = { λ v. record { store = v.store; coordinates = v.coordinates } };
+    ghost view = { λ v. record { store = store_of v.store; coordinates = v.coordinates } };
+
+    ghost invariant = { λ v. IfSome v.store (λ s. s.coordinates ≡ v.coordinates) };
 }
 
-fn copied<'a>(store: &Option<VariationStore<'a>>) -> Option<VariationStore<'a>>
+fn copied<'a>(store: &Option<StoreAtInstance<'a>>) -> Option<StoreAtInstance<'a>>
     ensures { result ≡ store.now }
 {
     match store {
         Some(store) => Some(store.copy()),
+        None => None,
+    }
+}
+
+/// A store at an instance.
+fn at_instance<'a>(
+    store: Option<VariationStore<'a>>,
+    coordinates: &InstanceCoordinates,
+) -> Option<StoreAtInstance<'a>>
+    ensures store { store_of result ≡ store.entry }
+    ensures coordinates { IfSome result (λ s. s.coordinates ≡ coordinates.now) }
+{
+    match store {
+        Some(store) => Some(StoreAtInstance::new(store, coordinates)),
         None => None,
     }
 }
@@ -127,7 +146,7 @@ impl<'a> PairVariation<'a> {
         }
     }
 
-    /// The variation of an instance, by GDEF's store.
+    /// The variation of an instance, by GDEF's store. Each region of the store takes a step for each axis.
     pub fn new(
         store: Option<VariationStore<'a>>,
         coordinates: &InstanceCoordinates,
@@ -135,7 +154,7 @@ impl<'a> PairVariation<'a> {
         ensures { result ≡ record { store = store.entry; coordinates = coordinates.now } }
     {
         PairVariation {
-            store,
+            store: at_instance(store, coordinates),
             coordinates: coordinates.copy(),
         }
     }
@@ -172,9 +191,9 @@ impl<'a> PairVariation<'a> {
         ensures few { reads.new ≤ reads.old + 5 }
     {
         match &self.store {
-            Some(_) => {
+            Some(store) => {
                 let indexes = indexes_in(table, at, parent, values, reads);
-                pair_value(&self.store, advance, indexes, &self.coordinates)
+                store.value(advance, indexes)
             }
             None => advance,
         }

@@ -5,13 +5,12 @@ ghost use Rattle.tt_metrics.specs.Varied.{advance_by};
 
 use std::marker::Model;
 use tt_axes::InstanceCoordinates;
-use tt_variation_store::Hvar;
+use tt_variation_store::{Hvar, HvarAtInstance};
 
-/// HVAR, and the coordinates of an instance. Clauses see both.
+/// HVAR at an instance. Clauses see its store and the coordinates.
 #[derive(Drop)]
 pub(crate) struct VariedAdvances<'a> {
-    hvar: Hvar<'a>,
-    coordinates: InstanceCoordinates,
+    hvar: HvarAtInstance<'a>,
 }
 
 impl<'a> Model for VariedAdvances<'a> {
@@ -19,7 +18,7 @@ impl<'a> Model for VariedAdvances<'a> {
 
     ghost Value = { varied.VariedAdvances };
 
-    ghost view = { λ a. record { hvar = a.hvar; coordinates = a.coordinates } };
+    ghost view = { λ a. record { hvar = a.hvar.store; coordinates = a.hvar.coordinates } };
 }
 
 impl<'a> VariedAdvances<'a> {
@@ -27,8 +26,7 @@ impl<'a> VariedAdvances<'a> {
         ensures { result ≡ record { hvar = hvar.entry; coordinates = coordinates.now } }
     {
         VariedAdvances {
-            hvar,
-            coordinates: coordinates.copy(),
+            hvar: HvarAtInstance::new(hvar, coordinates),
         }
     }
 
@@ -38,7 +36,6 @@ impl<'a> VariedAdvances<'a> {
     {
         VariedAdvances {
             hvar: self.hvar.copy(),
-            coordinates: self.coordinates.copy(),
         }
     }
 
@@ -47,6 +44,6 @@ impl<'a> VariedAdvances<'a> {
     pub(crate) fn advance(&self, g: u16, advance: u16) -> u16
         ensures { result ≡ advance_by (Some self.now) g advance }
     {
-        self.hvar.advance(g, advance, &self.coordinates)
+        self.hvar.advance(g, advance)
     }
 }

@@ -1,6 +1,6 @@
 -- OpenType, "OpenType Font Variations Common Table Formats": the item variation store. A store that isn't whole isn't there
 -- (profile).
-use Rattle.std.specs.Prelude.{◌≡◌, refl, ℕ, ◌+◌, ◌*◌, Bool, true, false, not, ◌&&◌, ◌==◌, nat_le, if◌then◌else◌, List, [], ◌∷◌, length, replicate, Option, Some, None, ℤ}
+use Rattle.std.specs.Prelude.{◌≡◌, refl, ℕ, ◌+◌, ◌*◌, Bool, true, false, not, ◌&&◌, ◌==◌, nat_le, if◌then◌else◌, List, ◌∷◌, length, replicate, Option, Some, None, ℤ}
 use Rattle.tt_variation_store.specs.Numbers.{number, word, long}
 use Rattle.tt_variation_store.specs.Regions.{RegionList, is_whole}
 

@@ -30,9 +30,9 @@ impl<'a> Model for StoreAtInstance<'a> {
     ghost use Rattle.std.specs.Prelude.{◌≡◌, length};
     ghost use Rattle.tt_variation_store.specs.Regions.{AreShares, most_listed};
     ghost use Rattle.tt_variation_store.specs.Store.{region_list};
-    ghost use Rattle.tt_variation_store.specs.Store as store;
+    ghost use Rattle.tt_variation_store.specs.Store as stores;
 
-    ghost Value = { store.StoreAtInstance };
+    ghost Value = { stores.StoreAtInstance };
 
     ghost view = { λ s. record { store = s.store; coordinates = s.coordinates } };
 
@@ -50,10 +50,7 @@ fn scaled(delta: i64, share: Share) -> i64
 
 impl<'a> StoreAtInstance<'a> {
     /// The store at an instance. Each region takes a step for each axis.
-    pub fn new(
-        store: VariationStore<'a>,
-        coordinates: &InstanceCoordinates,
-    ) -> StoreAtInstance<'a>
+    pub fn new(store: VariationStore<'a>, coordinates: &InstanceCoordinates) -> StoreAtInstance<'a>
         ensures { result ≡ record { store = store.entry; coordinates = coordinates.now } }
     {
         let shares = store.regions().shares(coordinates);
@@ -88,10 +85,10 @@ impl<'a> StoreAtInstance<'a> {
         ensures { result.parts ≡ region_share (region_list self.now.store) region self.now.coordinates }
     {
         tt_axes::laws::shares_fall();
+        let shares = &self.shares;
         if region >= MOST_LISTED {
             return Share::none();
         }
-        let shares = &self.shares;
         Share {
             parts: shares[region],
         }
