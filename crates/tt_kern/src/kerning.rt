@@ -3,7 +3,8 @@
 ghost use Rattle.std.specs.Prelude.{◌≡◌, ◌+◌, ◌^◌, ◌<◌, ◌≤◌, length, unsigned_abs};
 ghost use Rattle.tt_core.specs.Limits.{font_limit};
 ghost use Rattle.tt_kern.specs.Kerning.{kerning};
-ghost use Rattle.tt_kern.specs.Reads.{opening_reads, reads_of};
+ghost use Rattle.tt_kern.specs.Listed.{pairs_of, sum_from};
+ghost use Rattle.tt_kern.specs.Reads.{opening_reads, reads_from, reads_of};
 ghost use Rattle.tt_kern.specs.Variation.{no_variation};
 
 pub(crate) mod tally;
@@ -15,9 +16,10 @@ use crate::pair::GlyphPair;
 use crate::pairs::list::PairList;
 use crate::pairs::pairs_of;
 use crate::sum::pair_sum;
-use crate::variation::PairVariation;
+use crate::variation::{PairVariation, VariedPair};
 use crate::words::Words;
 use std::marker::Model;
+use tt_variation_store::StoreAtInstance;
 
 /// The kerning of two neighbouring glyphs.
 #[derive(Clone, Copy)]
@@ -109,6 +111,28 @@ impl<'a> Kerning<'a> {
         self.reads
     }
 
+    /// The value by GPOS. At an instance the shares of GDEF's regions are found once for the pair.
+    fn gpos_value(&self, glyphs: GlyphPair, reads: &mut Tally) -> i32
+        requires { reads.old + 5120 < 2 ^ 32 }
+        ensures exact { result ≡ sum_from self.now.variation self.now.gpos glyphs.left glyphs.right 0 (pairs_of self.now.gpos) }
+        ensures bound { unsigned_abs result ≤ 2 ^ 20 }
+        ensures count { reads.new ≡ reads.old + reads_from self.now.variation self.now.gpos glyphs.left glyphs.right 0 (pairs_of self.now.gpos) }
+        ensures few { reads.new ≤ reads.old + 5120 }
+    {
+        let coordinates = &self.variation.coordinates;
+        match &self.variation.store {
+            Some(store) => {
+                let kept = StoreAtInstance::new(store.copy(), coordinates);
+                let variation = VariedPair::new(Some(&kept), coordinates);
+                pair_sum(&self.gpos, &self.pairs, glyphs, &variation, reads)
+            }
+            None => {
+                let variation = VariedPair::new(None, coordinates);
+                pair_sum(&self.gpos, &self.pairs, glyphs, &variation, reads)
+            }
+        }
+    }
+
     fn value(&self, left: u16, right: u16, reads: &mut Tally) -> i32
         requires { reads.old + 5120 < 2 ^ 32 }
         ensures exact { result ≡ kerning self.now left right }
@@ -118,7 +142,7 @@ impl<'a> Kerning<'a> {
     {
         let glyphs = GlyphPair { left, right };
         match self.feature {
-            Some(_) => pair_sum(&self.gpos, &self.pairs, glyphs, &self.variation, reads),
+            Some(_) => self.gpos_value(glyphs, reads),
             None => kern_sum(&self.kern, glyphs, reads),
         }
     }

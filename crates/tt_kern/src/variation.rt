@@ -1,6 +1,6 @@
 //! The values of pairs at an instance. OpenType, "OpenType Layout Common Table Formats", VariationIndex tables.
 
-ghost use Rattle.std.specs.Prelude.{◌≡◌, ◌+◌, ◌^◌, ◌<◌, ◌≤◌, IfSome, unsigned_abs};
+ghost use Rattle.std.specs.Prelude.{◌≡◌, ◌+◌, ◌^◌, ◌<◌, ◌≤◌, IfSome, option_copied, unsigned_abs};
 ghost use Rattle.tt_kern.specs.Reads.{device_reads, if_some, indexes_reads, offset_reads};
 ghost use Rattle.tt_kern.specs.Variation.{device_offset, indexes_of, low_bits, no_variation, store_of, varied_advance};
 
@@ -13,45 +13,46 @@ use tt_variation_store::{DeltaSetIndex, StoreAtInstance, VariationStore};
 /// The format of a VariationIndex table.
 const VARIATION_INDEX: usize = 0x8000;
 
-/// GDEF's store at an instance, and the coordinates. Without a store no value varies. Clauses see the store and the
-/// coordinates.
+/// GDEF's store, and the coordinates of an instance. Without a store no value varies. Clauses see both.
 #[derive(Drop)]
 pub struct PairVariation<'a> {
-    store: Option<StoreAtInstance<'a>>,
-    coordinates: InstanceCoordinates,
+    pub(crate) store: Option<VariationStore<'a>>,
+    pub(crate) coordinates: InstanceCoordinates,
 }
 
 impl<'a> Model for PairVariation<'a> {
-    ghost use Rattle.std.specs.Prelude.{◌≡◌, IfSome};
+    ghost use Rattle.tt_kern.specs.Variation as variation;
+
+    ghost Value = { variation.PairVariation };
+
+    ghost view = { λ v. record { store = v.store; coordinates = v.coordinates } };
+}
+
+/// How values vary while one pair is looked up: GDEF's store, whose shares are found once for the pair, and the
+/// coordinates. Clauses see the store and the coordinates.
+#[derive(Drop)]
+pub(crate) struct VariedPair<'s, 'a> {
+    store: Option<&'s StoreAtInstance<'a>>,
+    coordinates: &'s InstanceCoordinates,
+}
+
+impl<'s, 'a> Model for VariedPair<'s, 'a> {
+    ghost use Rattle.std.specs.Prelude.{◌≡◌, IfSome, option_copied};
     ghost use Rattle.tt_kern.specs.Variation.{store_of};
     ghost use Rattle.tt_kern.specs.Variation as variation;
 
     ghost Value = { variation.PairVariation };
 
-    ghost view = { λ v. record { store = store_of v.store; coordinates = v.coordinates } };
+    ghost view = { λ v. record { store = store_of (option_copied v.store); coordinates = v.coordinates.now } };
 
-    ghost invariant = { λ v. IfSome v.store (λ s. s.coordinates ≡ v.coordinates) };
+    ghost invariant = { λ v. IfSome (option_copied v.store) (λ s. s.coordinates ≡ v.coordinates.now) };
 }
 
-fn copied<'a>(store: &Option<StoreAtInstance<'a>>) -> Option<StoreAtInstance<'a>>
+fn copied<'a>(store: &Option<VariationStore<'a>>) -> Option<VariationStore<'a>>
     ensures { result ≡ store.now }
 {
     match store {
         Some(store) => Some(store.copy()),
-        None => None,
-    }
-}
-
-/// A store at an instance.
-fn at_instance<'a>(
-    store: Option<VariationStore<'a>>,
-    coordinates: &InstanceCoordinates,
-) -> Option<StoreAtInstance<'a>>
-    ensures store { store_of result ≡ store.entry }
-    ensures coordinates { IfSome result (λ s. s.coordinates ≡ coordinates.now) }
-{
-    match store {
-        Some(store) => Some(StoreAtInstance::new(store, coordinates)),
         None => None,
     }
 }
@@ -146,7 +147,7 @@ impl<'a> PairVariation<'a> {
         }
     }
 
-    /// The variation of an instance, by GDEF's store. Each region of the store takes a step for each axis.
+    /// The variation of an instance, by GDEF's store.
     pub fn new(
         store: Option<VariationStore<'a>>,
         coordinates: &InstanceCoordinates,
@@ -154,7 +155,7 @@ impl<'a> PairVariation<'a> {
         ensures { result ≡ record { store = store.entry; coordinates = coordinates.now } }
     {
         PairVariation {
-            store: at_instance(store, coordinates),
+            store,
             coordinates: coordinates.copy(),
         }
     }
@@ -167,6 +168,20 @@ impl<'a> PairVariation<'a> {
             store: copied(&self.store),
             coordinates: self.coordinates.copy(),
         }
+    }
+
+}
+
+impl<'s, 'a> VariedPair<'s, 'a> {
+    /// The variation of a pair.
+    pub(crate) fn new(
+        store: Option<&'s StoreAtInstance<'a>>,
+        coordinates: &'s InstanceCoordinates,
+    ) -> VariedPair<'s, 'a>
+        requires { IfSome (option_copied store) (λ s. s.coordinates ≡ coordinates.now) }
+        ensures { result ≡ record { store = store_of (option_copied store); coordinates = coordinates.now } }
+    {
+        VariedPair { store, coordinates }
     }
 
     /// An advance at the instance, in the values at an offset of the subtable at another. Without a store no number is
@@ -190,7 +205,7 @@ impl<'a> PairVariation<'a> {
         ensures count { reads.new ≡ reads.old + if_some self.now.store (device_reads table.now at parent values) }
         ensures few { reads.new ≤ reads.old + 5 }
     {
-        match &self.store {
+        match self.store {
             Some(store) => {
                 let indexes = indexes_in(table, at, parent, values, reads);
                 store.value(advance, indexes)

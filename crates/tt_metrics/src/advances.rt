@@ -5,12 +5,13 @@ ghost use Rattle.tt_metrics.specs.Varied.{advance_by};
 
 use std::marker::Model;
 use tt_axes::InstanceCoordinates;
-use tt_variation_store::{Hvar, HvarAtInstance};
+use tt_variation_store::Hvar;
 
-/// HVAR at an instance. Clauses see its store and the coordinates.
+/// HVAR, and the coordinates of an instance. Clauses see both.
 #[derive(Drop)]
 pub(crate) struct VariedAdvances<'a> {
-    hvar: HvarAtInstance<'a>,
+    hvar: Hvar<'a>,
+    coordinates: InstanceCoordinates,
 }
 
 impl<'a> Model for VariedAdvances<'a> {
@@ -18,7 +19,7 @@ impl<'a> Model for VariedAdvances<'a> {
 
     ghost Value = { varied.VariedAdvances };
 
-    ghost view = { λ a. record { hvar = a.hvar.store; coordinates = a.hvar.coordinates } };
+    ghost view = { λ a. record { hvar = a.hvar; coordinates = a.coordinates } };
 }
 
 impl<'a> VariedAdvances<'a> {
@@ -26,7 +27,8 @@ impl<'a> VariedAdvances<'a> {
         ensures { result ≡ record { hvar = hvar.entry; coordinates = coordinates.now } }
     {
         VariedAdvances {
-            hvar: HvarAtInstance::new(hvar, coordinates),
+            hvar,
+            coordinates: coordinates.copy(),
         }
     }
 
@@ -36,6 +38,7 @@ impl<'a> VariedAdvances<'a> {
     {
         VariedAdvances {
             hvar: self.hvar.copy(),
+            coordinates: self.coordinates.copy(),
         }
     }
 
@@ -44,6 +47,6 @@ impl<'a> VariedAdvances<'a> {
     pub(crate) fn advance(&self, g: u16, advance: u16) -> u16
         ensures { result ≡ advance_by (Some self.now) g advance }
     {
-        self.hvar.advance(g, advance)
+        self.hvar.advance(g, advance, &self.coordinates)
     }
 }

@@ -60,55 +60,14 @@ impl<'a> Hvar<'a> {
             map: self.map,
         }
     }
-}
 
-/// HVAR at an instance. Clauses see its store and the coordinates.
-#[derive(Drop)]
-pub struct HvarAtInstance<'a> {
-    store: StoreAtInstance<'a>,
-    /// The offset of the map of advances, or 0.
-    map: usize,
-}
-
-impl<'a> Model for HvarAtInstance<'a> {
-    ghost use Rattle.std.specs.Prelude.{◌≡◌, ◌<◌, ◌^◌};
-    ghost use Rattle.tt_variation_store.specs.Numbers.{long};
-    ghost use Rattle.tt_variation_store.specs.Store.{StoreAtInstance};
-
-    ghost Value = { StoreAtInstance };
-
-    ghost view = { λ h. h.store };
-
-    ghost invariant = { λ h. (h.map ≡ long h.store.store.table 8) × (h.map < 2 ^ 32) };
-}
-
-impl<'a> HvarAtInstance<'a> {
-    /// The table at an instance.
-    pub fn new(hvar: Hvar<'a>, coordinates: &InstanceCoordinates) -> HvarAtInstance<'a>
-        ensures { result ≡ record { store = hvar.entry; coordinates = coordinates.now } }
-    {
-        HvarAtInstance {
-            store: StoreAtInstance::new(hvar.store, coordinates),
-            map: hvar.map,
-        }
-    }
-
-    /// A copy. The bytes are not copied.
-    pub fn copy(&self) -> HvarAtInstance<'a>
-        ensures { result ≡ self.now }
-    {
-        HvarAtInstance {
-            store: self.store.copy(),
-            map: self.map,
-        }
-    }
-
-    /// A glyph's advance, in font units: the advance that hmtx has, and the glyph's delta, kept within 0 to 65535
-    /// (profile).
-    pub fn advance(&self, glyph: u16, advance: u16) -> u16
-        ensures { result ≡ advance_of self.now.store glyph advance self.now.coordinates }
+    /// A glyph's advance at an instance, in font units: the advance that hmtx has, and the glyph's delta, kept within 0
+    /// to 65535 (profile).
+    pub fn advance(&self, glyph: u16, advance: u16, coordinates: &InstanceCoordinates) -> u16
+        ensures { result ≡ advance_of self.now glyph advance coordinates.now }
     {
         let index = index_of(self.store.table(), self.map, usize::from(glyph));
-        kept_uint16(i64::from(advance) + self.store.delta(index))
+        let store = StoreAtInstance::new(self.store.copy(), coordinates);
+        kept_uint16(i64::from(advance) + store.delta(index))
     }
 }

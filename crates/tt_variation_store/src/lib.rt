@@ -16,7 +16,7 @@ mod store;
 
 pub use at_instance::StoreAtInstance;
 pub use gdef::{gdef_store, variation_index};
-pub use hvar::{Hvar, HvarAtInstance};
+pub use hvar::Hvar;
 pub use index::DeltaSetIndex;
 pub use mvar::{Height, Mvar};
 pub use store::VariationStore;

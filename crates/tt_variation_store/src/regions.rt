@@ -12,6 +12,9 @@ use tt_axes::{InstanceCoordinates, RegionEnds, Share};
 /// The most regions of a list (profile).
 pub(crate) const MOST_LISTED: usize = 512;
 
+/// The most axes of all regions together (profile).
+const MOST_SIDES: usize = 4096;
+
 /// The list of regions of a store that is there. Clauses see the bytes of the store's table, and the offset in the table.
 #[derive(Drop)]
 pub(crate) struct RegionList<'a> {
@@ -48,7 +51,7 @@ fn coordinate_at(table: &[u8], at: usize) -> i32
 
 impl<'a> RegionList<'a> {
     /// The list at an offset of a table, if all of it is there and its regions have the font's count of axes. At most 512
-    /// regions are listed (profile).
+    /// regions are listed, with at most 4,096 axes together (profile).
     pub(crate) fn open(table: &'a [u8], at: usize, axes: usize) -> Option<RegionList<'a>>
         requires size { length table.now ≤ font_limit }
         requires place { at < 2 ^ 33 }
@@ -58,6 +61,7 @@ impl<'a> RegionList<'a> {
         let count = word(table, at + 2);
         if word(table, at) != axes
             || count > MOST_LISTED
+            || product(axes, count) > MOST_SIDES
             || table.len() < at + 4 + product(6 * axes, count)
         {
             return None;
