@@ -169,7 +169,6 @@ impl<'a> PairVariation<'a> {
             coordinates: self.coordinates.copy(),
         }
     }
-
 }
 
 impl<'s, 'a> VariedPair<'s, 'a> {
@@ -179,7 +178,7 @@ impl<'s, 'a> VariedPair<'s, 'a> {
         coordinates: &'s InstanceCoordinates,
     ) -> VariedPair<'s, 'a>
         requires { IfSome (option_copied store) (λ s. s.coordinates ≡ coordinates.now) }
-        ensures { result ≡ record { store = store_of (option_copied store); coordinates = coordinates.now } }
+        ensures { result ≡ record { store = store_of (option_copied store.entry); coordinates = coordinates.now } }
     {
         VariedPair { store, coordinates }
     }
