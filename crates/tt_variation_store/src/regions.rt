@@ -135,9 +135,8 @@ impl<'a> RegionList<'a> {
         ensures size { length result ≡ most_listed }
         ensures each { AreShares self.now coordinates.now result }
     {
-        let _ = &self.table;
         let mut shares = [0; MOST_LISTED];
-        for region in 0..MOST_LISTED {
+        for region in 0..self.count {
             shares[region] = self.share(region, coordinates).parts;
         }
         shares
