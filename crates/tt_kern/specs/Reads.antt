@@ -1,5 +1,5 @@
 -- The counts of numbers that are read: for two glyphs, and when the tables are opened.
-use Rattle.std.specs.Prelude.{◌≡◌, refl, ℕ, zero, suc, ◌+◌, ◌*◌, ◌/◌, ◌%◌, ◌-◌, ◌&&◌, ◌==◌, nat_lt, nat_le, if◌then◌else◌, List, [], ◌∷◌, Option, Some, None, ℤ}
+use Rattle.std.specs.Prelude.{ℕ, zero, suc, ◌+◌, ◌*◌, ◌/◌, ◌%◌, ◌-◌, ◌&&◌, ◌==◌, nat_lt, nat_le, if◌then◌else◌, List, [], ◌∷◌, Option, Some, None, ℤ}
 use Rattle.tt_core.specs.Search.{first_below}
 use Rattle.tt_kern.specs.declared.kern_table.KernVersion.{KernVersion}
 use Rattle.tt_kern.specs.declared.kern_table.KernVersion.TheVariants.{OpenType, Apple}

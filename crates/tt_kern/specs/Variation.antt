@@ -6,13 +6,17 @@ use Rattle.tt_variation_store.specs.declared.index.DeltaSetIndex.{DeltaSetIndex}
 use Rattle.tt_variation_store.specs.Deltas.{fine_delta}
 use Rattle.tt_variation_store.specs.Gdef.{pair_value}
 use Rattle.tt_variation_store.specs.Numbers.{number}
-use Rattle.tt_variation_store.specs.Store.{Store}
+use Rattle.tt_variation_store.specs.Store.{Store, StoreAtInstance}
 use Rattle.tt_kern.specs.Words.{word}
 
 -- GDEF's store, if there is one, and the coordinates of an instance
 pub record PairVariation : Type 0 where
   pub store : Option Store
   pub coordinates : List ℤ
+
+abbrev pub store_of : Option StoreAtInstance → Option Store
+store_of None = None
+store_of (Some s) = Some s.store
 
 -- that of the font's default
 abbrev pub no_variation : PairVariation

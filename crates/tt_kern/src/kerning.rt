@@ -1,10 +1,11 @@
 //! The kerning of two neighbouring glyphs.
 
-ghost use Rattle.std.specs.Prelude.{◌≡◌, ◌+◌, ◌^◌, ◌<◌, ◌≤◌, length, unsigned_abs};
+ghost use Rattle.std.specs.Prelude.{◌≡◌, ◌+◌, ◌^◌, ◌<◌, ◌≤◌, length, IfSome, Some, option_copied, unsigned_abs};
 ghost use Rattle.tt_core.specs.Limits.{font_limit};
 ghost use Rattle.tt_kern.specs.Kerning.{kerning};
-ghost use Rattle.tt_kern.specs.Reads.{opening_reads, reads_of};
-ghost use Rattle.tt_kern.specs.Variation.{no_variation};
+ghost use Rattle.tt_kern.specs.Listed.{pairs_of, sum_from};
+ghost use Rattle.tt_kern.specs.Reads.{opening_reads, reads_from, reads_of};
+ghost use Rattle.tt_kern.specs.Variation.{no_variation, store_of};
 
 pub(crate) mod tally;
 
@@ -15,9 +16,10 @@ use crate::pair::GlyphPair;
 use crate::pairs::list::PairList;
 use crate::pairs::pairs_of;
 use crate::sum::pair_sum;
-use crate::variation::PairVariation;
+use crate::variation::{PairVariation, VariedPair};
 use crate::words::Words;
 use std::marker::Model;
+use tt_variation_store::{StoreAtInstance, VariationStore};
 
 /// The kerning of two neighbouring glyphs.
 #[derive(Clone, Copy)]
@@ -109,6 +111,52 @@ impl<'a> Kerning<'a> {
         self.reads
     }
 
+    /// The value by GPOS, with GDEF's store at the instance where there is one.
+    fn sum_with(
+        &self,
+        glyphs: GlyphPair,
+        store: Option<&StoreAtInstance<'a>>,
+        reads: &mut Tally,
+    ) -> i32
+        requires room { reads.old + 5120 < 2 ^ 32 }
+        requires store { store_of (option_copied store) ≡ self.now.variation.store }
+        requires coordinates { IfSome (option_copied store) (λ s. s.coordinates ≡ self.now.variation.coordinates) }
+        ensures exact { result ≡ sum_from self.now.variation self.now.gpos glyphs.left glyphs.right 0 (pairs_of self.now.gpos) }
+        ensures bound { unsigned_abs result ≤ 2 ^ 20 }
+        ensures count { reads.new ≡ reads.old + reads_from self.now.variation self.now.gpos glyphs.left glyphs.right 0 (pairs_of self.now.gpos) }
+        ensures few { reads.new ≤ reads.old + 5120 }
+    {
+        let variation = VariedPair::new(store, &self.variation.coordinates);
+        pair_sum(&self.gpos, &self.pairs, glyphs, &variation, reads)
+    }
+
+    /// The value by GPOS at an instance. The shares of the store's regions are found once for the pair.
+    fn varied_sum(&self, glyphs: GlyphPair, store: &VariationStore<'a>, reads: &mut Tally) -> i32
+        requires room { reads.old + 5120 < 2 ^ 32 }
+        requires store { Some store.now ≡ self.now.variation.store }
+        ensures exact { result ≡ sum_from self.now.variation self.now.gpos glyphs.left glyphs.right 0 (pairs_of self.now.gpos) }
+        ensures bound { unsigned_abs result ≤ 2 ^ 20 }
+        ensures count { reads.new ≡ reads.old + reads_from self.now.variation self.now.gpos glyphs.left glyphs.right 0 (pairs_of self.now.gpos) }
+        ensures few { reads.new ≤ reads.old + 5120 }
+    {
+        let kept = StoreAtInstance::new(store.copy(), &self.variation.coordinates);
+        self.sum_with(glyphs, Some(&kept), reads)
+    }
+
+    /// The value by GPOS.
+    fn gpos_value(&self, glyphs: GlyphPair, reads: &mut Tally) -> i32
+        requires { reads.old + 5120 < 2 ^ 32 }
+        ensures exact { result ≡ sum_from self.now.variation self.now.gpos glyphs.left glyphs.right 0 (pairs_of self.now.gpos) }
+        ensures bound { unsigned_abs result ≤ 2 ^ 20 }
+        ensures count { reads.new ≡ reads.old + reads_from self.now.variation self.now.gpos glyphs.left glyphs.right 0 (pairs_of self.now.gpos) }
+        ensures few { reads.new ≤ reads.old + 5120 }
+    {
+        match &self.variation.store {
+            Some(store) => self.varied_sum(glyphs, store, reads),
+            None => self.sum_with(glyphs, None, reads),
+        }
+    }
+
     fn value(&self, left: u16, right: u16, reads: &mut Tally) -> i32
         requires { reads.old + 5120 < 2 ^ 32 }
         ensures exact { result ≡ kerning self.now left right }
@@ -118,7 +166,7 @@ impl<'a> Kerning<'a> {
     {
         let glyphs = GlyphPair { left, right };
         match self.feature {
-            Some(_) => pair_sum(&self.gpos, &self.pairs, glyphs, &self.variation, reads),
+            Some(_) => self.gpos_value(glyphs, reads),
             None => kern_sum(&self.kern, glyphs, reads),
         }
     }

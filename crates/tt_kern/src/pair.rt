@@ -7,7 +7,7 @@ ghost use Rattle.tt_kern.specs.Reads.{advance_reads, value_at_reads, set_reads, 
 use crate::coverage::{class_of, coverage_index};
 use crate::kerning::tally::Tally;
 use crate::search::{KeySize, Keys, find};
-use crate::variation::PairVariation;
+use crate::variation::VariedPair;
 use crate::words::{Words, product};
 
 /// Two neighbouring glyphs.
@@ -67,7 +67,7 @@ fn value_at(
     at: usize,
     parent: usize,
     values: usize,
-    variation: &PairVariation,
+    variation: &VariedPair,
     reads: &mut Tally,
 ) -> i32
     requires place { at < 2 ^ 34 }
@@ -90,7 +90,7 @@ fn value_in_set(
     at: usize,
     set: usize,
     right: usize,
-    variation: &PairVariation,
+    variation: &VariedPair,
     reads: &mut Tally,
 ) -> Option<i32>
     requires place { at < 2 ^ 34 }
@@ -123,7 +123,7 @@ fn value_by_sets(
     at: usize,
     index: usize,
     right: usize,
-    variation: &PairVariation,
+    variation: &VariedPair,
     reads: &mut Tally,
 ) -> Option<i32>
     requires place { at < 2 ^ 34 }
@@ -148,7 +148,7 @@ fn value_by_classes(
     table: &Words,
     at: usize,
     glyphs: GlyphPair,
-    variation: &PairVariation,
+    variation: &VariedPair,
     reads: &mut Tally,
 ) -> Option<i32>
     requires place { at < 2 ^ 34 }
@@ -179,7 +179,7 @@ pub(crate) fn pair_value(
     table: &Words,
     at: usize,
     glyphs: GlyphPair,
-    variation: &PairVariation,
+    variation: &VariedPair,
     reads: &mut Tally,
 ) -> Option<i32>
     requires place { at < 2 ^ 34 }

@@ -8,7 +8,7 @@ ghost use Rattle.tt_kern.specs.declared.pairs.list.PairSubtable as is;
 use crate::kerning::tally::Tally;
 use crate::pair::{GlyphPair, pair_value};
 use crate::pairs::list::{PairList, PairSubtable};
-use crate::variation::PairVariation;
+use crate::variation::VariedPair;
 use crate::words::Words;
 
 /// The sum so far. Lookups below `ended` have ended.
@@ -24,7 +24,7 @@ fn after_pair(
     glyphs: GlyphPair,
     so_far: SumSoFar,
     pair: PairSubtable,
-    variation: &PairVariation,
+    variation: &VariedPair,
     reads: &mut Tally,
 ) -> SumSoFar
     requires total { unsigned_abs so_far.total ≤ 32768 * so_far.ended }
@@ -56,7 +56,7 @@ pub(crate) fn pair_sum(
     gpos: &Words,
     pairs: &PairList,
     glyphs: GlyphPair,
-    variation: &PairVariation,
+    variation: &VariedPair,
     reads: &mut Tally,
 ) -> i32
     requires room { reads.old + 4864 < 2 ^ 32 }

@@ -1,14 +1,14 @@
 //! The values of pairs at an instance. OpenType, "OpenType Layout Common Table Formats", VariationIndex tables.
 
-ghost use Rattle.std.specs.Prelude.{◌≡◌, ◌+◌, ◌^◌, ◌<◌, ◌≤◌, unsigned_abs};
+ghost use Rattle.std.specs.Prelude.{◌≡◌, ◌+◌, ◌^◌, ◌<◌, ◌≤◌, IfSome, option_copied, unsigned_abs};
 ghost use Rattle.tt_kern.specs.Reads.{device_reads, if_some, indexes_reads, offset_reads};
-ghost use Rattle.tt_kern.specs.Variation.{device_offset, indexes_of, low_bits, no_variation, varied_advance};
+ghost use Rattle.tt_kern.specs.Variation.{device_offset, indexes_of, low_bits, no_variation, store_of, varied_advance};
 
 use crate::kerning::tally::Tally;
 use crate::words::Words;
 use std::marker::Model;
 use tt_axes::InstanceCoordinates;
-use tt_variation_store::{DeltaSetIndex, VariationStore, pair_value};
+use tt_variation_store::{DeltaSetIndex, StoreAtInstance, VariationStore};
 
 /// The format of a VariationIndex table.
 const VARIATION_INDEX: usize = 0x8000;
@@ -16,8 +16,8 @@ const VARIATION_INDEX: usize = 0x8000;
 /// GDEF's store, and the coordinates of an instance. Without a store no value varies. Clauses see both.
 #[derive(Drop)]
 pub struct PairVariation<'a> {
-    store: Option<VariationStore<'a>>,
-    coordinates: InstanceCoordinates,
+    pub(crate) store: Option<VariationStore<'a>>,
+    pub(crate) coordinates: InstanceCoordinates,
 }
 
 impl<'a> Model for PairVariation<'a> {
@@ -26,6 +26,26 @@ impl<'a> Model for PairVariation<'a> {
     ghost Value = { variation.PairVariation };
 
     ghost view = { λ v. record { store = v.store; coordinates = v.coordinates } };
+}
+
+/// How values vary while one pair is looked up: GDEF's store, whose shares are found once for the pair, and the
+/// coordinates. Clauses see the store and the coordinates.
+#[derive(Drop)]
+pub(crate) struct VariedPair<'s, 'a> {
+    store: Option<&'s StoreAtInstance<'a>>,
+    coordinates: &'s InstanceCoordinates,
+}
+
+impl<'s, 'a> Model for VariedPair<'s, 'a> {
+    ghost use Rattle.std.specs.Prelude.{◌≡◌, IfSome, option_copied};
+    ghost use Rattle.tt_kern.specs.Variation.{store_of};
+    ghost use Rattle.tt_kern.specs.Variation as variation;
+
+    ghost Value = { variation.PairVariation };
+
+    ghost view = { λ v. record { store = store_of (option_copied v.store); coordinates = v.coordinates.now } };
+
+    ghost invariant = { λ v. IfSome (option_copied v.store) (λ s. s.coordinates ≡ v.coordinates.now) };
 }
 
 fn copied<'a>(store: &Option<VariationStore<'a>>) -> Option<VariationStore<'a>>
@@ -149,6 +169,19 @@ impl<'a> PairVariation<'a> {
             coordinates: self.coordinates.copy(),
         }
     }
+}
+
+impl<'s, 'a> VariedPair<'s, 'a> {
+    /// The variation of a pair.
+    pub(crate) fn new(
+        store: Option<&'s StoreAtInstance<'a>>,
+        coordinates: &'s InstanceCoordinates,
+    ) -> VariedPair<'s, 'a>
+        requires { IfSome (option_copied store) (λ s. s.coordinates ≡ coordinates.now) }
+        ensures { result ≡ record { store = store_of (option_copied store.entry); coordinates = coordinates.now } }
+    {
+        VariedPair { store, coordinates }
+    }
 
     /// An advance at the instance, in the values at an offset of the subtable at another. Without a store no number is
     /// read.
@@ -171,10 +204,10 @@ impl<'a> PairVariation<'a> {
         ensures count { reads.new ≡ reads.old + if_some self.now.store (device_reads table.now at parent values) }
         ensures few { reads.new ≤ reads.old + 5 }
     {
-        match &self.store {
-            Some(_) => {
+        match self.store {
+            Some(store) => {
                 let indexes = indexes_in(table, at, parent, values, reads);
-                pair_value(&self.store, advance, indexes, &self.coordinates)
+                store.value(advance, indexes)
             }
             None => advance,
         }

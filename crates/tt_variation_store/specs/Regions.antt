@@ -1,6 +1,6 @@
 -- OpenType, "OpenType Font Variations Common Table Formats": the variation region list, and "Algorithm for interpolation of
 -- instance values": how much of a region's deltas holds.
-use Rattle.std.specs.Prelude.{ℕ, zero, suc, ◌+◌, ◌*◌, Bool, ◌&&◌, ◌==◌, nat_lt, nat_le, if◌then◌else◌, List, length, Option, Some, None, ℤ, pos, ◌*ℤ◌}
+use Rattle.std.specs.Prelude.{◌≡◌, refl, ℕ, zero, suc, ◌+◌, ◌*◌, Bool, true, false, ◌&&◌, ◌==◌, nat_lt, nat_le, if◌then◌else◌, List, [], ◌∷◌, length, slice_index, Option, Some, None, ℤ, pos, ◌*ℤ◌}
 use Rattle.tt_axes.specs.Coordinates.{coordinate_at}
 use Rattle.tt_axes.specs.Shares.{whole_share, share_of_region_axis}
 use Rattle.tt_axes.specs.declared.region.RegionEnds.{RegionEnds}
@@ -18,9 +18,21 @@ axis_count l = word l.table l.at
 abbrev pub region_count : RegionList → ℕ
 region_count l = word l.table (l.at + 2)
 
--- whether the regions have the font's count of axes, and all of them fit; each axis of a region has three words
+-- regions of a list, and axes of all of them together (profile)
+abbrev pub most_listed : ℕ
+most_listed = 512
+
+abbrev pub most_sides : ℕ
+most_sides = 4096
+
+abbrev pub are_few : ℕ → ℕ → Bool
+are_few axes regions = nat_le regions most_listed && nat_le (axes * regions) most_sides
+
+-- whether the regions have the font's count of axes, are not too many, and all fit; each axis of a region has three words
 abbrev pub is_whole : ℕ → RegionList → Bool
-is_whole axes l = (axis_count l == axes) && nat_le (l.at + 4 + 6 * axes * region_count l) (length l.table)
+is_whole axes l =
+    (axis_count l == axes) && are_few axes (region_count l)
+    && nat_le (l.at + 4 + 6 * axes * region_count l) (length l.table)
 
 abbrev pub if_whole : ℕ → RegionList → Option RegionList
 if_whole axes l = if is_whole axes l then Some l else None
@@ -50,3 +62,11 @@ share_after l region coordinates (suc axis) =
 abbrev pub region_share : RegionList → ℕ → List ℤ → ℕ
 region_share l region coordinates =
     if nat_lt region (region_count l) then share_after l region coordinates (length coordinates) else 0
+
+-- whether numbers are the regions' shares, each at its region's number
+abbrev pub AreShares : RegionList → List ℤ → List ℕ → Type 0
+AreShares l coordinates shares = (region : ℕ) → slice_index shares region ≡ region_share l region coordinates
+
+-- worked values: 512 regions of 1 and of 8 axes, 513 of 1, 64 and 65 of 64 axes
+few_and_many : are_few 1 512 ∷ are_few 8 512 ∷ are_few 1 513 ∷ are_few 64 64 ∷ are_few 64 65 ∷ are_few 9 512 ∷ [] ≡ true ∷ true ∷ false ∷ true ∷ false ∷ false ∷ []
+few_and_many = refl

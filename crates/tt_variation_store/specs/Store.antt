@@ -1,7 +1,7 @@
 -- OpenType, "OpenType Font Variations Common Table Formats": the item variation store. A store that isn't whole isn't there
 -- (profile).
-use Rattle.std.specs.Prelude.{ℕ, ◌+◌, ◌*◌, Bool, not, ◌&&◌, ◌==◌, nat_le, if◌then◌else◌, List, length, Option, Some, None}
-use Rattle.tt_variation_store.specs.Numbers.{word, long}
+use Rattle.std.specs.Prelude.{◌≡◌, refl, ℕ, ◌+◌, ◌*◌, Bool, true, false, not, ◌&&◌, ◌==◌, nat_le, if◌then◌else◌, List, ◌∷◌, length, replicate, Option, Some, None, ℤ}
+use Rattle.tt_variation_store.specs.Numbers.{number, word, long}
 use Rattle.tt_variation_store.specs.Regions.{RegionList, is_whole}
 
 -- a store: the bytes of its table, and its offset in the table
@@ -33,3 +33,31 @@ if_store axes s = if is_store axes s then Some s else None
 -- the store at an offset of a table
 abbrev pub store_at : List ℕ → ℕ → ℕ → Option Store
 store_at table at axes = if_store axes (record { table = table; at = at })
+
+-- a store at an instance
+pub record StoreAtInstance : Type 0 where
+  pub store : Store
+  pub coordinates : List ℤ
+
+-- worked values: a list of 512 regions of one axis, one of 513, and one that is cut short
+abbrev listed : ℕ → ℕ → ℕ → Store
+listed high low count = record {
+  table = 0 ∷ 1 ∷ 0 ∷ 0 ∷ 0 ∷ 12 ∷ 0 ∷ 1 ∷ 0 ∷ 0 ∷ 0 ∷ 0 ∷ 0 ∷ 1 ∷ high ∷ low ∷ replicate count 0;
+  at = 0;
+}
+
+a_list_of_512 : is_store 1 (listed 2 0 3072) ≡ true
+unfolding number
+a_list_of_512 = refl
+
+a_list_of_513 : is_store 1 (listed 2 1 3078) ≡ false
+unfolding number
+a_list_of_513 = refl
+
+a_list_of_512_cut_short : is_store 1 (listed 2 0 3071) ≡ false
+unfolding number
+a_list_of_512_cut_short = refl
+
+no_regions : is_store 1 (listed 0 0 0) ≡ true
+unfolding number
+no_regions = refl

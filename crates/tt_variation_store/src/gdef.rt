@@ -1,14 +1,13 @@
 //! GDEF's store, whose deltas vary the values of GPOS. OpenType, "GDEF: Glyph Definition Table", and "OpenType Layout
 //! Common Table Formats", VariationIndex tables.
 
-ghost use Rattle.std.specs.Prelude.{◌≡◌, ◌<◌, ◌≤◌, ◌^◌, length, unsigned_abs};
+ghost use Rattle.std.specs.Prelude.{◌≡◌, ◌<◌, ◌≤◌, ◌^◌, length};
 ghost use Rattle.tt_core.specs.Limits.{font_limit};
-ghost use Rattle.tt_variation_store.specs.Gdef.{gdef_store_of, variation_index, value_by_index, pair_value};
+ghost use Rattle.tt_variation_store.specs.Gdef.{gdef_store_of, variation_index};
 
 use crate::index::{DeltaSetIndex, index_at};
-use crate::numbers::{kept_int16, long, word};
+use crate::numbers::{long, word};
 use crate::store::VariationStore;
-use tt_axes::InstanceCoordinates;
 
 /// The format of a VariationIndex table.
 const VARIATION_INDEX: usize = 0x8000;
@@ -42,44 +41,4 @@ pub fn variation_index(table: &[u8], parent: usize, offset: usize) -> Option<Del
         return None;
     }
     Some(index_at(table, device))
-}
-
-impl<'a> VariationStore<'a> {
-    /// A value of GPOS at an instance, in font units: with indexes the value and their delta, kept an int16 (profile).
-    fn value(
-        &self,
-        value: i32,
-        index: Option<DeltaSetIndex>,
-        coordinates: &InstanceCoordinates,
-    ) -> i32
-        requires { unsigned_abs value ≤ 32768 }
-        ensures exact { result ≡ value_by_index self.now value index coordinates.now }
-        ensures bound { unsigned_abs result ≤ 32768 }
-    {
-        match index {
-            Some(index) => {
-                let sum = i64::from(value) + self.delta(index, coordinates);
-                i32::from(kept_int16(sum))
-            }
-            None => value,
-        }
-    }
-}
-
-/// The value of a pair at an instance, in font units. The value stays where GDEF has no store, or the value has no
-/// indexes. Else their delta is added, and the sum is kept an int16 (profile).
-pub fn pair_value<'a>(
-    store: &Option<VariationStore<'a>>,
-    value: i32,
-    index: Option<DeltaSetIndex>,
-    coordinates: &InstanceCoordinates,
-) -> i32
-    requires { unsigned_abs value ≤ 32768 }
-    ensures exact { result ≡ pair_value store.now value index coordinates.now }
-    ensures bound { unsigned_abs result ≤ 32768 }
-{
-    match store {
-        Some(store) => store.value(value, index, coordinates),
-        None => value,
-    }
 }

@@ -4,6 +4,7 @@ ghost use Rattle.std.specs.Prelude.{◌≡◌, ◌≤◌, length};
 ghost use Rattle.tt_core.specs.Limits.{font_limit};
 ghost use Rattle.tt_variation_store.specs.Hvar.{hvar_of, advance_of};
 
+use crate::at_instance::StoreAtInstance;
 use crate::index_map::index_of;
 use crate::numbers::{kept_uint16, long, word};
 use crate::store::VariationStore;
@@ -66,6 +67,7 @@ impl<'a> Hvar<'a> {
         ensures { result ≡ advance_of self.now glyph advance coordinates.now }
     {
         let index = index_of(self.store.table(), self.map, usize::from(glyph));
-        kept_uint16(i64::from(advance) + self.store.delta(index, coordinates))
+        let store = StoreAtInstance::new(self.store.copy(), coordinates);
+        kept_uint16(i64::from(advance) + store.delta(index))
     }
 }

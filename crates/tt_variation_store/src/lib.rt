@@ -2,6 +2,7 @@
 //! Variations Common Table Formats".
 #![tactic(auto)]
 
+mod at_instance;
 mod data;
 mod gdef;
 mod hvar;
@@ -13,7 +14,8 @@ mod numbers;
 mod regions;
 mod store;
 
-pub use gdef::{gdef_store, pair_value, variation_index};
+pub use at_instance::StoreAtInstance;
+pub use gdef::{gdef_store, variation_index};
 pub use hvar::Hvar;
 pub use index::DeltaSetIndex;
 pub use mvar::{Height, Mvar};

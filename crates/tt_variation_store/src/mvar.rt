@@ -5,6 +5,7 @@ ghost use Rattle.tt_core.specs.Limits.{font_limit};
 ghost use Rattle.tt_core.specs.Numbers.{unsigned_at};
 ghost use Rattle.tt_variation_store.specs.Mvar.{mvar_of, height_tag, record_place, record_of, record_delta, height_of};
 
+use crate::at_instance::StoreAtInstance;
 use crate::index::index_at;
 use crate::numbers::{kept_int16, long, product, word};
 use crate::store::VariationStore;
@@ -106,7 +107,7 @@ impl<'a> Mvar<'a> {
         match record_of(table, height) {
             Some(i) => {
                 let index = index_at(table, record_place(table, i) + 4);
-                self.store.delta(index, coordinates)
+                StoreAtInstance::new(self.store.copy(), coordinates).delta(index)
             }
             None => 0,
         }

@@ -3,11 +3,17 @@
 
 ghost use Rattle.std.specs.Prelude.{◌≡◌, ◌+◌, ◌*◌, ◌^◌, ◌<◌, ◌≤◌, length};
 ghost use Rattle.tt_core.specs.Limits.{font_limit};
-ghost use Rattle.tt_variation_store.specs.Regions.{RegionList, if_whole, axis_place, coordinate_in, share_by, region_share};
+ghost use Rattle.tt_variation_store.specs.Regions.{AreShares, RegionList, if_whole, axis_place, coordinate_in, share_by, most_listed, region_share};
 
 use crate::numbers::{product, signed_word, word};
 use std::marker::Model;
 use tt_axes::{InstanceCoordinates, RegionEnds, Share};
+
+/// The most regions of a list (profile).
+pub(crate) const MOST_LISTED: usize = 512;
+
+/// The most axes of all regions together (profile).
+const MOST_SIDES: usize = 4096;
 
 /// The list of regions of a store that is there. Clauses see the bytes of the store's table, and the offset in the table.
 #[derive(Drop)]
@@ -23,7 +29,7 @@ pub(crate) struct RegionList<'a> {
 impl<'a> Model for RegionList<'a> {
     ghost use Rattle.std.specs.Prelude.{◌≡◌, ◌<◌, ◌≤◌, ◌^◌, length};
     ghost use Rattle.tt_core.specs.Limits.{font_limit};
-    ghost use Rattle.tt_variation_store.specs.Regions.{axis_count, region_count};
+    ghost use Rattle.tt_variation_store.specs.Regions.{axis_count, most_listed, region_count};
     ghost use Rattle.tt_variation_store.specs.Regions as regions;
 
     ghost Value = { regions.RegionList };
@@ -32,7 +38,7 @@ impl<'a> Model for RegionList<'a> {
 
     ghost invariant = { λ l. (length l.table.now ≤ font_limit) × (l.at < 2 ^ 33) × (l.axes ≤ 64)
         × (l.axes ≡ axis_count (record { table = l.table.now; at = l.at }))
-        × (l.count ≡ region_count (record { table = l.table.now; at = l.at })) × (l.count < 65536) };
+        × (l.count ≡ region_count (record { table = l.table.now; at = l.at })) × (l.count ≤ most_listed) };
 }
 
 /// The F2DOT14 at an offset, as a coordinate in 1/65536.
@@ -44,7 +50,8 @@ fn coordinate_at(table: &[u8], at: usize) -> i32
 }
 
 impl<'a> RegionList<'a> {
-    /// The list at an offset of a table, if all of it is there and its regions have the font's count of axes.
+    /// The list at an offset of a table, if all of it is there and its regions have the font's count of axes. At most 512
+    /// regions are listed, with at most 4,096 axes together (profile).
     pub(crate) fn open(table: &'a [u8], at: usize, axes: usize) -> Option<RegionList<'a>>
         requires size { length table.now ≤ font_limit }
         requires place { at < 2 ^ 33 }
@@ -52,7 +59,11 @@ impl<'a> RegionList<'a> {
         ensures { result ≡ if_whole axes (record { table = table.now; at = at }) }
     {
         let count = word(table, at + 2);
-        if word(table, at) != axes || table.len() < at + 4 + product(6 * axes, count) {
+        if word(table, at) != axes
+            || count > MOST_LISTED
+            || product(axes, count) > MOST_SIDES
+            || table.len() < at + 4 + product(6 * axes, count)
+        {
             return None;
         }
         Some(RegionList {
@@ -101,7 +112,7 @@ impl<'a> RegionList<'a> {
     }
 
     /// How much of a region's deltas holds at an instance. Of a region that isn't there nothing holds (profile).
-    pub(crate) fn share(&self, region: usize, coordinates: &InstanceCoordinates) -> Share
+    fn share(&self, region: usize, coordinates: &InstanceCoordinates) -> Share
         requires { region < 65536 }
         ensures { result.parts ≡ region_share self.now region coordinates.now }
     {
@@ -117,5 +128,17 @@ impl<'a> RegionList<'a> {
             }
         }
         share
+    }
+
+    /// How much of each region's deltas holds at an instance, in 1/65536.
+    pub(crate) fn shares(&self, coordinates: &InstanceCoordinates) -> [u32; MOST_LISTED]
+        ensures size { length result ≡ most_listed }
+        ensures each { AreShares self.now coordinates.now result }
+    {
+        let mut shares = [0; MOST_LISTED];
+        for region in 0..self.count {
+            shares[region] = self.share(region, coordinates).parts;
+        }
+        shares
     }
 }

@@ -1,6 +1,6 @@
 use Rattle.std.proofs.Common.{◌≡◌, refl, add-one, ◌+ℤ◌, SFits, w64, of_z, to_z, arith}
 use Rattle.std.proofs.lemmas.Int.{ints, to_z-of_z}
-use Rattle.tt_variation_store.proofs.store.VariationStore.sum.Goals as goal
+use Rattle.tt_variation_store.proofs.at_instance.StoreAtInstance.sum.Goals as goal
 
 pub loop-i-preserved : goal.loop-i-preserved
 loop-i-preserved c =
