@@ -116,7 +116,7 @@ impl FixedHint {
             FixedHint::Cut => "is cut off or damaged",
             FixedHint::Beyond => "has a glyph beyond what is drawn",
             FixedHint::Program => PROGRAM,
-            FixedHint::Variable => "is a variable font; its default instance is drawn",
+            FixedHint::Variable => VARIABLE,
             FixedHint::NotVariable => "is no variable font",
             FixedHint::NoInstance => "has no such instance; tt_render faces lists them",
             FixedHint::ManyCharacters => MANY_CHARACTERS,
@@ -131,6 +131,9 @@ const CFF: &str = "has CFF outlines; TrueType outlines alone are drawn: \
 const TYPE1: &str = "is a Type 1 font; TrueType outlines alone are drawn: convert it (fontforge)";
 
 const BITMAPS: &str = "has bitmaps or colour pictures, but no TrueType outlines";
+
+const VARIABLE: &str = "is a variable font; its default instance is drawn \
+                        (--instance, --axis; faces lists them)";
 
 const PROGRAM: &str = "has a program for fitting that is refused; --fit best draws it";
 
