@@ -1,7 +1,6 @@
 -- A call that stops before it reads a line, and the font that lines are drawn by.
 use Rattle.std.proofs.Common.{◌≡◌, ◌∙◌, ap, sym, ℕ, ◌≤◌, Bool, true, false, nat_lt, if◌then◌else◌, List, length, Option, Some, None, Result, Ok, Err, IfSome, ℤ, refl, arith}
 use Rattle.std.proofs.lemmas.Bool.Decides.{nat_tests}
-use Rattle.tt_axes.specs.Coordinates.{are_zero}
 use Rattle.tt_core.specs.Chains.{came-through}
 use Rattle.tt_core.specs.Collections.{directory_at, directory_by, offset_of}
 use Rattle.tt_core.specs.declared.collection.Reading.{Reading}
@@ -14,7 +13,6 @@ use Rattle.tt_core.specs.Outcomes.{◌>>=◌}
 use Rattle.tt_core.proofs.Whole.{directory-kept}
 use Rattle.tt_core.specs.declared.draw_fault.DrawFault.{DrawFault}
 use Rattle.tt_core.specs.declared.draw_fault.DrawFault.TheVariants as draw
-use Rattle.tt_deltas.specs.Gvar.{gvar_of}
 use Rattle.tt_strike.specs.Job.{size_tested}
 use Rattle.tt_strike.specs.Refusals.{Refused, as_job, font, refusal}
 use Rattle.tt_face.specs.Faces.{Face, cmap_tag}
@@ -74,19 +72,22 @@ read_file file r face was =
     let kept = directory-kept (directory_at file by_offset.value) d by_offset.rest in
     ap (λ (e : Directory). e.file) (sym kept ∙ face_directory d r face by_directory.rest)
 
+-- a face, or another one with the same directory
+either_directory : {X : Type 0} (b : Bool) (face varied : Face) (r : Result X Fault) (other : X → Face)
+    → ((x : X) → face.directory ≡ (other x).directory) → (if b then Ok face else (r >>= λ x. Ok (other x))) ≡ Ok varied
+    → face.directory ≡ varied.directory
+either_directory true face varied r other keeps was = let same : face ≡ varied = cc in ap (λ (f : Face). f.directory) same
+either_directory false face varied r other keeps was =
+    let read = came-through r _ varied was in
+    let same : other read.value ≡ varied = let rest = read.rest in cc in
+    keeps read.value ∙ ap (λ (f : Face). f.directory) same
+
 -- an instance keeps the directory of its face
 coordinates_directory : (face : Face) (c : List ℤ) (varied : Face) → face_at_coordinates face c ≡ Ok varied
     → face.directory ≡ varied.directory
 unfolding face_at_coordinates
-coordinates_directory face c varied was = by (are_zero c) was
-  where
-    by : (b : Bool) → (if b then Ok face else (gvar_of face.directory (length c) >>= λ gvar. Ok (face_by_gvar face c gvar))) ≡ Ok varied
-        → face.directory ≡ varied.directory
-    by true was = let same : face ≡ varied = cc in ap (λ (f : Face). f.directory) same
-    by false was =
-        let read = came-through (gvar_of face.directory (length c)) _ varied was in
-        let same : face_by_gvar face c read.value ≡ varied = let rest = read.rest in cc in
-        ap (λ (f : Face). f.directory) same
+coordinates_directory face c varied was =
+    either_directory _ face varied _ (face_by_gvar face c) (λ x. refl) was
 
 asked_directory : (face : Face) (asked : Option Asked) (varied : Face) → face_at_asked face asked ≡ Ok varied
     → face.directory ≡ varied.directory
