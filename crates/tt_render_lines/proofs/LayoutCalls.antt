@@ -6,7 +6,6 @@ use Rattle.tt_core.specs.declared.collection.Reading.{Reading}
 use Rattle.tt_core.specs.declared.draw_fault.DrawFault.{DrawFault}
 use Rattle.tt_core.specs.declared.draw_fault.DrawFault.TheVariants as draw
 use Rattle.tt_face.specs.Faces.{Face}
-use Rattle.tt_face.specs.Files.{IsFaceDefectBy, face_with}
 use Rattle.tt_core.specs.Directory.{HasNo}
 use Rattle.tt_core.specs.Faults.{Fault}
 use Rattle.tt_render_texts.specs.declared.refusal.Refusal.{Refusal}
@@ -14,7 +13,7 @@ use Rattle.tt_render_texts.specs.declared.refusal.Refusal.TheVariants as reason
 use Rattle.tt_render_settings.specs.declared.setting.Setting.{Setting}
 use Rattle.tt_render_lines.specs.LayoutTexts.{IsLaidDefect, IsLayoutDefect, IsReadDefect, laid_text, layout_answer, layout_text, line_text, pen_text, size_text}
 use Rattle.tt_render_settings.specs.MeasureText.{face_text, font_text}
-use Rattle.tt_render_settings.specs.Settings.{job_by}
+use Rattle.tt_render_settings.specs.Settings.{IsOpeningDefect, face_asked, job_by}
 use Rattle.tt_render_settings.specs.TextsOutcome.{IsOfText, TextTellsDefects, refusal_font_fault, told}
 use Rattle.tt_render_texts.specs.Views.{before_lines, refusal_of_draw}
 use Rattle.tt_strike.specs.declared.layouts.Layout.{Layout}
@@ -77,7 +76,7 @@ none_made V false P v none = λ fault defect. defect
 
 -- a defect by a font's tables is one by the font's file
 pub layout_tells : (V : Type 0) (a : Setting) (text file : List ℕ) (face : Face) (why : Refusal)
-    → face_with file a.opening ≡ Ok face
+    → face_asked a file ≡ Ok face
     → IfSome (refusal_font_fault why) (IsLaidDefect face (job_by a text)) → IsOfText {V = V} (Err why)
     → TextTellsDefects {V = V} (IsLayoutDefect a text file) (Err (before_lines why))
 layout_tells V a text file face (reason.Font f) there stands serves = inr (rw there stands)
@@ -94,8 +93,8 @@ layout_tells V a text file face reason.Many there stands serves = tt
 layout_tells V a text file face reason.Memory there stands serves = tt
 
 -- so the file has none where the tables have none
-pub none_by_layout : (a : Setting) (text file : List ℕ) (face : Face) → face_with file a.opening ≡ Ok face
-    → HasNo (IsFaceDefectBy file a.opening.reading) → HasNo (IsLaidDefect face (job_by a text))
+pub none_by_layout : (a : Setting) (text file : List ℕ) (face : Face) → face_asked a file ≡ Ok face
+    → HasNo (IsOpeningDefect a file) → HasNo (IsLaidDefect face (job_by a text))
     → HasNo (IsLayoutDefect a text file)
 none_by_layout a text file face there none line = λ fault defect. elim defect [
   | inl tables ↦ none fault tables
