@@ -3,7 +3,7 @@
 
 mod bdf;
 mod closable;
-mod faces;
+mod instances;
 mod labelling;
 mod output;
 mod performing;

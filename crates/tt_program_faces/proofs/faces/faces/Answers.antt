@@ -4,9 +4,9 @@ use Rattle.std.specs.Io.KnownBytes.{Appends}
 use Rattle.tt_render_run.proofs.Answered.{reading_defects, lines_fail, lines_defects}
 use Rattle.tt_render_run.proofs.Calls.{IsRead, reading_fails, with_bytes, tells_of_known}
 use Rattle.tt_strike.specs.Refusals.{Refused, as_font}
-use Rattle.tt_program_decisions.specs.FaceLines.{IsFacesDefect, faces_of, faces_wanted}
-use Rattle.tt_program_decisions.proofs.FaceCalls.{faces-are-of-font}
-use Rattle.tt_program_decisions.proofs.faces.faces.Goals as goal
+use Rattle.tt_program_faces.specs.FaceLines.{IsFacesDefect, faces_of, faces_wanted}
+use Rattle.tt_program_faces.proofs.FaceCalls.{faces-are-of-font}
+use Rattle.tt_program_faces.proofs.faces.faces.Goals as goal
 
 -- the lines of a font
 abbrev made : List ℕ → Result (List ℕ) Refused

@@ -1,15 +1,16 @@
 //! The output of `faces`: the number of a file's faces, and a line for each.
 
-ghost use Rattle.std.specs.Prelude.{◌≡◌, ◌≤◌, ◌++◌, false, length, string_bytes, IfOk, OnOk};
+ghost use Rattle.std.specs.Prelude.{◌≡◌, ◌≤◌, ◌++◌, codes, false, length, string_bytes, IfOk};
 ghost use Rattle.tt_core.specs.Limits.{font_limit};
 ghost use Rattle.tt_core.specs.Outcomes.{FontGives, font_fault};
 ghost use Rattle.tt_face.specs.Files.{face_by};
-ghost use Rattle.tt_program_decisions.specs.FaceLines.{IsFacesDefect, behind_blank, face_words, faces_of, faces_text, faces_wanted, fault_line, figures, read_words, wide};
+ghost use Rattle.tt_program_faces.specs.FaceLines.{IsFacesDefect, face_lines, faces_of, faces_text, faces_wanted, fault_line, figures, read_lines, read_words, wide};
 ghost use Rattle.tt_render_run.specs.Defects.{TellsDefectsOf};
 ghost use Rattle.tt_render_run.specs.Outcome.{CallGives};
 ghost use Rattle.tt_render_streams.specs.Traffic.{traffic_of};
 ghost use Rattle.tt_strike.specs.Defects.{TellsDefects};
 
+use crate::variations::{push_name, push_variations};
 use std::alloc::{AllocError, Global};
 use tt_core::{Fault, FontFault, Reading, Sink, Source, face_count};
 use tt_face::Face;
@@ -21,11 +22,12 @@ use tt_render_streams::{RunFault, read_font};
 const FACES_TOLD: u32 = 256;
 
 /// Writes the number of a font file's faces, and a line for each of the first 256: its glyphs, its units per em and its
-/// name, or the reason why it is refused. Nothing is written before all lines are made.
+/// name, or the reason why it is refused. The lines of the face's axes and named instances follow. Nothing is written
+/// before all lines are made.
 ///
 /// Errors, the first of: Read, FontLarge; Font, of the place of the first face; Write. Memory may come at any
 /// allocation.
-pub(crate) fn faces<R: Source, W: Sink>(
+pub fn faces<R: Source, W: Sink>(
     alloc: Global,
     font: &mut R,
     out: &mut W,
@@ -60,22 +62,31 @@ fn lines(alloc: Global, file: &[u8], count: u32) -> Result<Vec<u8>, AllocError>
     let head = format!(in alloc; "faces {count}\n")?;
     lines.extend_from_slice(head.as_bytes())?;
     for n in 0..count.min(FACES_TOLD) {
-        let words = words(alloc, file, n)?;
-        lines.extend_from_slice(&words)?;
-        lines.push(b'\n')?;
+        let more = face_lines(alloc, file, n)?;
+        lines.extend_from_slice(&more)?;
     }
     Ok(lines)
 }
 
-/// The line of face n, without its line feed.
-fn words(alloc: Global, file: &[u8], n: u32) -> Result<Vec<u8>, AllocError>
+/// The lines of face n: its own, and those of its axes and named instances.
+fn face_lines(alloc: Global, file: &[u8], n: u32) -> Result<Vec<u8>, AllocError>
     requires { length file.now ≤ font_limit }
-    ensures { IfOk result (λ words. words.items ≡ face_words n (face_by file.now (wide n))) }
+    ensures { IfOk result (λ lines. lines.items ≡ face_lines n (face_by file.now (wide n))) }
 {
     match Face::read(file, Reading::Wide { face: n }) {
-        Ok(face) => read_words(alloc, n, &face),
-        Err(fault) => refused_words(alloc, n, fault),
+        Ok(face) => read_lines(alloc, n, &face),
+        Err(fault) => refused_line(alloc, n, fault),
     }
+}
+
+/// The lines of a face that is read.
+fn read_lines(alloc: Global, n: u32, face: &Face) -> Result<Vec<u8>, AllocError>
+    ensures { IfOk result (λ lines. lines.items ≡ read_lines n face.now) }
+{
+    let mut lines = read_words(alloc, n, face)?;
+    lines.push(b'\n')?;
+    push_variations(&mut lines, alloc, face)?;
+    Ok(lines)
 }
 
 /// The words about a face that is read.
@@ -90,24 +101,15 @@ fn read_words(alloc: Global, n: u32, face: &Face) -> Result<Vec<u8>, AllocError>
     Ok(words)
 }
 
-/// Appends a name behind a blank, and nothing without a name. Error: memory ran out.
-fn push_name(words: &mut Vec<u8>, name: &[u8]) -> Result<(), AllocError>
-    ensures { OnOk result (words.new.items ≡ words.old.items ++ behind_blank name.now) }
+/// The line about a face that is refused.
+fn refused_line(alloc: Global, n: u32, fault: Fault) -> Result<Vec<u8>, AllocError>
+    ensures { IfOk result (λ line. line.items ≡ fault_line n fault ++ codes "\n") }
 {
-    if !name.is_empty() {
-        words.push(b' ')?;
-    }
-    words.extend_from_slice(name)
-}
-
-/// The words about a face that is refused.
-fn refused_words(alloc: Global, n: u32, fault: Fault) -> Result<Vec<u8>, AllocError>
-    ensures { IfOk result (λ words. words.items ≡ fault_line n fault) }
-{
-    let mut words = Vec::new(alloc);
-    let line = fault_line(alloc, n, fault)?;
-    words.extend_from_slice(line.as_bytes())?;
-    Ok(words)
+    let mut line = Vec::new(alloc);
+    let words = fault_line(alloc, n, fault)?;
+    line.extend_from_slice(words.as_bytes())?;
+    line.push(b'\n')?;
+    Ok(line)
 }
 
 fn figures(alloc: Global, n: u32, metrics: &Metrics) -> Result<String, AllocError>

@@ -1,4 +1,5 @@
--- No part of the standard: the output of `faces`, which is the number of a file's faces and a line for each (profile).
+-- No part of the standard: the output of `faces`, which is the number of a file's faces, a line for each, and the lines of
+-- its axes and named instances (profile).
 use Rattle.std.specs.Prelude.{◌≡◌, refl, ℕ, min, List, [], ◌∷◌, ◌++◌, flat_map, codes, decimal, Result, Ok, Err}
 use Rattle.std.specs.Fmt.{digits}
 use Rattle.std.specs.List.{range_with_len}
@@ -17,6 +18,7 @@ use Rattle.tt_metrics.specs.Metrics.{Metrics, glyphs_of, metrics_of, units_per_e
 use Rattle.tt_render_streams.specs.Messages.{fault_words}
 use Rattle.tt_render_run.specs.Outcome.{Wanted, outcome_of}
 use Rattle.tt_strike.specs.Refusals.{Refused, as_font}
+use Rattle.tt_program_faces.specs.Variations.{behind_blank, variation_lines}
 
 -- faces that have a line
 abbrev pub faces_told : ℕ
@@ -29,26 +31,25 @@ wide n = reading.Wide n
 abbrev pub figures : ℕ → Metrics → List ℕ
 figures n m = decimal n ++ (codes " " ++ (decimal (glyphs_of m) ++ (codes " " ++ decimal (units_per_em_of m))))
 
--- a name behind a blank; nothing without a name
-abbrev pub behind_blank : List ℕ → List ℕ
-behind_blank [] = []
-behind_blank (x ∷ xs) = codes " " ++ (x ∷ xs)
-
 -- `<n> <glyphs> <units per em> <name>`
 abbrev pub read_words : ℕ → Face → List ℕ
 read_words n face = figures n face.metrics ++ behind_blank (full_name_of face.directory)
+
+-- its line, and those of its axes and named instances
+abbrev pub read_lines : ℕ → Face → List ℕ
+read_lines n face = (read_words n face ++ codes "\n") ++ variation_lines face.directory
 
 -- `<n> <table>+<offset>: <number> <name>`
 abbrev pub fault_line : ℕ → Fault → List ℕ
 fault_line n f = decimal n ++ (codes " " ++ fault_words f)
 
--- the line of face n, without its line feed: the face is read, or has a first fault
-abbrev pub face_words : ℕ → Result Face Fault → List ℕ
-face_words n (Ok face) = read_words n face
-face_words n (Err fault) = fault_line n fault
+-- the lines of face n: the face is read, or has a first fault
+abbrev pub face_lines : ℕ → Result Face Fault → List ℕ
+face_lines n (Ok face) = read_lines n face
+face_lines n (Err fault) = fault_line n fault ++ codes "\n"
 
-abbrev pub face_line : List ℕ → ℕ → List ℕ
-face_line file n = face_words n (face_by file (wide n)) ++ codes "\n"
+abbrev pub lines_of_face : List ℕ → ℕ → List ℕ
+lines_of_face file n = face_lines n (face_by file (wide n))
 
 -- `faces <count>` and a line feed
 abbrev pub faces_head : ℕ → List ℕ
@@ -56,7 +57,7 @@ faces_head count = codes "faces " ++ (decimal count ++ codes "\n")
 
 -- the number of faces, and the lines of the first 256
 abbrev pub faces_text : List ℕ → ℕ → List ℕ
-faces_text file count = faces_head count ++ flat_map (face_line file) (range_with_len 0 (min count faces_told))
+faces_text file count = faces_head count ++ flat_map (lines_of_face file) (range_with_len 0 (min count faces_told))
 
 -- the lines of a file, or the fault of the place of its first face
 unfoldable pub faces_of : List ℕ → Result (List ℕ) Fault
