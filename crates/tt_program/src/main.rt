@@ -6,7 +6,7 @@ ghost use Rattle.std.specs.Prelude.{◌≡◌, ◌≤◌, false};
 mod command;
 mod output;
 
-use crate::command::{request, subcommand};
+use crate::command::{command_line, subcommand};
 use crate::output::OutputFiles;
 use clap::Error;
 use clap::error::ErrorKind;
@@ -19,8 +19,8 @@ use std::{env, fs, io};
 use tt_advice::shown_words;
 use tt_core::{Device, Sink};
 use tt_program_decisions::{
-    Stop, perform, stop_of_print, stop_of_request, stop_of_words, tell_refused, tell_stop,
-    tell_unmade, tell_unopened,
+    Stop, axes_asked, perform, stop_of_print, stop_of_request, stop_of_words, tell_refused,
+    tell_stop, tell_unmade, tell_unopened,
 };
 
 fn main(rt: HostRuntime) -> ExitCode {
@@ -61,11 +61,16 @@ fn serve<R: Files + Env + Print + Eprint + AllocGlobal>(rt: &R, stdin: Stdin, st
         Ok(words) => words,
         Err(error) => return tell_stop(stop_of_words(error.kind()), &mut errors),
     };
-    let request = match request(rt.alloc(), &words) {
-        Ok(Some(request)) => request,
+    let command = match command_line(rt.alloc(), &words) {
+        Ok(Some(command)) => command,
         Ok(None) => return tell_stop(Stop::Incomplete, &mut errors),
         Err(error) => return tell_error(rt, &words, &error, &mut errors),
     };
+    let axes = match axes_asked(rt.alloc(), command.instance.axes) {
+        Ok(axes) => axes,
+        Err(stop) => return tell_stop(stop, &mut errors),
+    };
+    let request = command.request.at(command.instance.asked(&axes));
     if let Some(stop) = stop_of_request(rt.alloc(), &request) {
         return tell_stop(stop, &mut errors);
     }
@@ -138,7 +143,7 @@ fn tell_refusal<E: Sink>(alloc: Global, words: &[String], errors: &mut E) -> u8
     let Ok(shown) = shown_words(alloc, words) else {
         return tell_stop(Stop::Memory, errors);
     };
-    match request(alloc, &shown) {
+    match command_line(alloc, &shown) {
         Err(error) if error.kind() == ErrorKind::OutOfMemory => tell_stop(Stop::Memory, errors),
         Err(error) if error.use_stderr() => match format!(in alloc; "{error}") {
             Ok(refusal) => tell_refused(alloc, subcommand(&shown), &refusal, errors),

@@ -2,8 +2,8 @@
 
 use crate::arguments::Argument;
 use crate::options::{
-    ALIGN, BOX, FACE, FIT, FIT_BEST, FONT, GROW, HEIGHT, KEEP_GOING, KERN, LINES, MARGIN, MISSING,
-    MISSING_TOLD, NO_INK, OUTPUT, PNG, RANGE, SIZE, TEXT, TEXT_OR_LINES, WIDTH,
+    ALIGN, AXIS, BOX, FACE, FIT, FIT_BEST, FONT, GROW, HEIGHT, INSTANCE, KEEP_GOING, KERN, LINES,
+    MARGIN, MISSING, MISSING_TOLD, NO_INK, OUTPUT, PNG, RANGE, SIZE, TEXT, TEXT_OR_LINES, WIDTH,
 };
 
 /// A subcommand.
@@ -59,6 +59,8 @@ const LABEL: Subcommand = Subcommand {
         BOX,
         FIT_BEST,
         FACE,
+        INSTANCE,
+        AXIS,
         MISSING_TOLD,
         KERN,
         HEIGHT,
@@ -83,6 +85,8 @@ const DRAW: Subcommand = Subcommand {
         MARGIN,
         FIT,
         FACE,
+        INSTANCE,
+        AXIS,
         MISSING,
         GROW,
         KERN,
@@ -106,6 +110,8 @@ const MEASURE: Subcommand = Subcommand {
         MARGIN,
         FIT,
         FACE,
+        INSTANCE,
+        AXIS,
         MISSING,
         GROW,
         KERN,
@@ -128,6 +134,8 @@ const MAP: Subcommand = Subcommand {
     ending: Some("A TEXT that begins with '-' goes after '--':\n  tt_render map FONT -- -text"),
     arguments: &[
         FACE,
+        INSTANCE,
+        AXIS,
         FONT,
         Argument {
             required: true,
@@ -139,7 +147,7 @@ const MAP: Subcommand = Subcommand {
 const FACES: Subcommand = Subcommand {
     name: "faces",
     call: "tt_render faces",
-    about: "Prints the faces of a file: glyphs, units per em and name of each",
+    about: "Prints the faces of a file, with their axes and named instances",
     ending: None,
     arguments: &[FONT],
 };
@@ -152,5 +160,7 @@ const BDF: Subcommand = Subcommand {
         "Without --range and TEXT it writes --range 20-7E,A0-FF.\n\
          A TEXT that begins with '-' goes after '--':\n  tt_render bdf --size N FONT -- -text",
     ),
-    arguments: &[SIZE, RANGE, FIT_BEST, FACE, HEIGHT, FONT, TEXT],
+    arguments: &[
+        SIZE, RANGE, FIT_BEST, FACE, INSTANCE, AXIS, HEIGHT, FONT, TEXT,
+    ],
 };

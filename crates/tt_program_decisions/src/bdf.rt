@@ -19,7 +19,7 @@ use std::alloc::{AllocError, Global};
 use tt_bdf::{CodeRange, read_ranges};
 use tt_bitmap_font::{FontFile, write_bdf};
 use tt_core::{Sink, Source};
-use tt_face::Heights;
+use tt_face::{AskedInstance, Heights};
 use tt_fit::Fit;
 
 /// A request for `bdf`.
@@ -37,6 +37,8 @@ pub struct BdfRequest<'a> {
     pub range: Option<&'a str>,
     /// A text, whose characters are wanted too; empty where there is none.
     pub text: &'a str,
+    /// The instance of a variable font, if one is asked for.
+    pub instance: Option<AskedInstance<'a>>,
 }
 
 /// The ranges where a request has neither ranges nor a text.
@@ -61,6 +63,7 @@ pub(crate) fn bdf_of<'a, A: Arguments<'a>>(arguments: &A) -> Option<Request<'a>>
         heights: heights_named(height?)?,
         range: range_words(range, text),
         text: text_or_none(text),
+        instance: None,
     }))
 }
 
@@ -157,6 +160,7 @@ pub(crate) fn perform_bdf<R: Source, W: Closable, E: Sink>(
                 text: asked.text,
                 path: asked.font,
                 face_given: asked.face.is_some(),
+                instance: asked.instance,
             };
             let written = write_bdf(alloc, font, out, error, &file);
             tell_bdf(alloc, &written, &file, folder, out.is_closed(), error)

@@ -1,0 +1,100 @@
+//! The words of `--instance` and `--axis`, and the instance that they ask for.
+
+ghost use Rattle.std.specs.Prelude.{◌≡◌, None, option_map};
+ghost use Rattle.tt_face.specs.Views.{asked_view, named_view};
+ghost use Rattle.tt_program_decisions.specs.Instances.{AsksAxes, AsksWords, instance_asked, is_number, named_asked, number_of, with_digit};
+
+use crate::request::Arguments;
+use crate::stopping::Stop;
+use std::alloc::{AllocError, Global};
+use tt_axes::{AxisValue, read_axis_values};
+use tt_face::{AskedInstance, NamedBy};
+
+/// The words of the instance that a command line asks for.
+#[derive(Clone, Copy)]
+pub struct InstanceWords<'a> {
+    /// The name of a named instance, or its number.
+    pub named: Option<&'a str>,
+    /// Values of axes, as TAG=VALUE,TAG=VALUE.
+    pub axes: Option<&'a str>,
+}
+
+/// The words of `--instance` and `--axis`, which may be absent.
+pub fn instance_words<'a, A: Arguments<'a>>(arguments: &A) -> InstanceWords<'a>
+    ensures { AsksWords (A.text arguments.now) result }
+{
+    InstanceWords {
+        named: arguments.text_for("instance"),
+        axes: arguments.text_for("axis"),
+    }
+}
+
+/// The values that the words of `--axis` give; none where these are absent. Errors: Axis, of words of another form;
+/// Memory.
+pub fn axes_asked(alloc: Global, words: Option<&str>) -> Result<Vec<AxisValue>, Stop>
+    ensures { AsksAxes (option_map (λ s. s.now) words.entry) result }
+{
+    let Some(words) = words else {
+        return Ok(Vec::new(alloc));
+    };
+    match read_axis_values(alloc, words.as_bytes()) {
+        Ok(Some(axes)) => Ok(axes),
+        Ok(None) => Err(Stop::Axis),
+        Err(AllocError) => Err(Stop::Memory),
+    }
+}
+
+/// A number with one more digit; the greatest number where that is greater.
+fn with_digit(n: u32, digit: u8) -> u32
+    ensures { result ≡ with_digit n digit }
+{
+    let more = 10 * u64::from(n) + u64::from(digit.saturating_sub(b'0'));
+    more.min(4_294_967_295) as u32
+}
+
+/// The number of some digits, at most 2^32 - 1. No font has so many instances.
+#[tactic(auto, using(std::proofs::lemmas::List::Sums::fold_more))]
+fn number_of(digits: &[u8]) -> u32
+    ensures { result ≡ number_of digits.now }
+{
+    let mut n = 0;
+    for digit in digits {
+        n = with_digit(n, *digit);
+    }
+    n
+}
+
+/// Whether some words are digits alone.
+fn is_number(words: &[u8]) -> bool
+    ensures { result ≡ is_number words.now }
+{
+    !words.is_empty() && words.iter().all(|c| c.is_ascii_digit())
+}
+
+/// The named instance that a word asks for: digits alone are its number, other words its name.
+fn named_asked<'a>(word: &'a str) -> NamedBy<'a>
+    ensures { named_view result ≡ named_asked word.now }
+{
+    let bytes = word.as_bytes();
+    if is_number(bytes) {
+        NamedBy::Number(number_of(bytes))
+    } else {
+        NamedBy::Name(bytes)
+    }
+}
+
+impl<'a> InstanceWords<'a> {
+    /// The instance that the words ask for, by the values that those of `--axis` give. None without words.
+    pub fn asked(self, axes: &'a [AxisValue]) -> Option<AskedInstance<'a>>
+        ensures { option_map asked_view result ≡ instance_asked (option_map (λ s. s.now) self.named) (option_map (λ s. s.now) self.axes) axes.now }
+    {
+        let named = match self.named {
+            Some(word) => Some(named_asked(word)),
+            None => None,
+        };
+        if named.is_none() && self.axes.is_none() {
+            return None;
+        }
+        Some(AskedInstance { named, axes })
+    }
+}
