@@ -59,7 +59,7 @@ fn answer_words(rt: &HostRuntime, what: &str, path: &str, words: &[String]) -> R
 struct Kept {
     /// The font program of the machine's questions.
     program: Program,
-    /// The font and the devices of questions about fonts.
+    /// The font, its instance and the devices of questions about fonts.
     asked: Asked,
 }
 
