@@ -10,4 +10,5 @@ mod Rising
 mod Shares
 mod ShownDigits
 mod ShownParts
+mod ShownRead
 mod Signed

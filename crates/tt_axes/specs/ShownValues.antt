@@ -1,6 +1,6 @@
 -- No part of a standard: a value of 16.16 as a decimal (profile), to the nearest 1/100000 and without zeros at its end.
 -- `--axis` reads the decimal as the same value.
-use Rattle.std.specs.Prelude.{◌≡◌, refl, ℕ, zero, suc, ◌+◌, ◌/◌, ◌%◌, ◌^◌, ◌==◌, if◌then◌else◌, ℤ, pos, negsuc, int_lt, unsigned_abs, List, [], ◌∷◌, ◌++◌, map, codes, decimal, Some}
+use Rattle.std.specs.Prelude.{◌≡◌, refl, ℕ, zero, suc, ◌+◌, ◌<◌, ◌/◌, ◌%◌, ◌^◌, ◌==◌, if◌then◌else◌, ℤ, pos, negsuc, int_lt, unsigned_abs, List, [], ◌∷◌, ◌++◌, map, codes, decimal, Some}
 use Rattle.std.specs.Fmt.{digits}
 use Rattle.tt_axes.specs.AxisWords.{value_of}
 use Rattle.tt_axes.specs.Shares.{portion}
@@ -30,6 +30,10 @@ shown_value v = minus v ++ shown_parts (hundred_thousandths (unsigned_abs v))
 -- the nearest 1/100000 are the nearest to no other value of 16.16
 abbrev pub PartsAreRead : Type 0
 PartsAreRead = (n : ℕ) → portion 65536 (hundred_thousandths n) 100000 ≡ n
+
+-- so that a value that is shown is read as the same value, but for -32768, whose magnitude is too great
+abbrev pub ValuesAreRead : Type 0
+ValuesAreRead = (v : ℤ) → unsigned_abs v < 2 ^ 31 → value_of (shown_value v) ≡ Some v
 
 -- worked values: 100, 650.5, -12.25, 0, the least value above 0, and the ends
 shown_values : map shown_value (pos 6553600 ∷ pos 42631168 ∷ negsuc 802815 ∷ pos 0 ∷ pos 1 ∷ pos 2147483647 ∷ negsuc 2147483647 ∷ [])

@@ -2,7 +2,7 @@
 
 ghost use Rattle.tt_axes.specs.Laws.{CoordinatesAreNear, CoordinatesRise, DefaultIsZero, DefaultsAreZero, NoPairKeeps, ZeroIsKept};
 ghost use Rattle.tt_axes.specs.Shares.{AllAtPeak, NothingAtEnds, RegionSharesFall, SharesFall};
-ghost use Rattle.tt_axes.specs.ShownValues.{PartsAreRead};
+ghost use Rattle.tt_axes.specs.ShownValues.{PartsAreRead, ValuesAreRead};
 
 /// Lemma: no axis makes a share larger. At its peak a variation keeps its share; at the ends of its region it has none.
 pub fn shares_fall()
@@ -31,4 +31,9 @@ pub fn defaults_are_zero()
 /// Lemma: a magnitude of 16.16 in 1/100000, to the nearest, is read as the same magnitude.
 pub fn parts_are_read()
     ensures { PartsAreRead }
+{}
+
+/// Lemma: a value of 16.16 that is shown as a decimal is read as the same value, but for -32768, which no word may give.
+pub fn values_are_read()
+    ensures { ValuesAreRead }
 {}

@@ -1,7 +1,7 @@
 -- A face, and the tables of its glyphs and programs, in the order of reading (profile). Apple TrueType Reference Manual,
 -- "The 'cvt ' table", "The 'fpgm' table", "The 'prep' table"; OpenType, "cmap", "loca", "glyf". A font may lack each of
 -- the tables of the programs.
-use Rattle.std.specs.Prelude.{◌≡◌, refl, ℕ, ℤ, List, [], ◌∷◌, take, codes, Option, Some, None, Result, Ok, Err}
+use Rattle.std.specs.Prelude.{◌≡◌, refl, ℕ, ℤ, Bool, not, ◌&&◌, is_some, List, [], ◌∷◌, take, codes, Option, Some, None, Result, Ok, Err}
 use Rattle.tt_cmap.specs.Maps.{CharacterMap}
 use Rattle.tt_core.specs.declared.fault.Why.TheVariants as why
 use Rattle.tt_core.specs.Directory.{Directory, file_directory, table_of, needed_table}
@@ -25,6 +25,10 @@ pub record Face : Type 0 where
   pub metrics : Metrics
   pub cmap : CharacterMap
   pub instance : Option FaceInstance
+
+-- whether advances come from the phantom points of glyphs: at an instance of a font without HVAR
+abbrev pub finds_advances : Face → Bool
+finds_advances face = is_some face.instance && not (is_some face.metrics.advances)
 
 -- 'cmap'
 abbrev pub cmap_tag : List ℕ

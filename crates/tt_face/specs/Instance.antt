@@ -1,6 +1,6 @@
 -- OpenType, "fvar: Font Variations Table" and "OpenType Font Variations Overview": the instance that a job asks for, and a
 -- face at it. Where all coordinates are 0 the instance is the font's default, and no other table is looked at.
-use Rattle.std.specs.Prelude.{◌≡◌, ℕ, min, Bool, true, false, bytes_eq, if◌then◌else◌, List, length, codes, Option, Some, None, unwrap_or, Result, Ok, IsOkAnd, ◌⊎◌, ℤ}
+use Rattle.std.specs.Prelude.{◌≡◌, ℕ, min, Bool, true, false, nat_lt, bytes_eq, if◌then◌else◌, List, length, codes, Option, Some, None, unwrap_or, Result, Ok, IsOkAnd, ◌⊎◌, ℤ}
 use Rattle.tt_core.specs.Directory.{Directory, IsDefectIn, table_of}
 use Rattle.tt_core.specs.Faults.{Fault}
 use Rattle.tt_core.specs.Outcomes.{◌>>=◌}
@@ -30,16 +30,18 @@ pub record Asked : Type 0 where
   pub named : Option Named
   pub axes : List AxisValue
 
--- the instances whose names are told of a face: the first 256 (profile)
+-- the instances that a list of faces has: the first 256 (profile)
 abbrev pub named_count : List ℕ → ℕ
 named_count fvar = min 256 (instance_count fvar)
 
--- whether the name of instance k, as it is told, is this one
+-- whether the name of instance k, as a list of faces has it, is this one
 abbrev pub has_name : Directory → List ℕ → List ℕ → ℕ → Bool
 has_name d fvar name k = bytes_eq (told_text (string_of (named_instance fvar k).name (table_of d name_tag))) name
 
+-- the empty text is no instance's name, though a list of faces has it where an instance has none
 abbrev pub first_with_name : Directory → List ℕ → List ℕ → Option ℕ
-first_with_name d fvar name = first_below (named_count fvar) (has_name d fvar name)
+first_with_name d fvar name =
+    if nat_lt (length name) 1 then None else first_below (named_count fvar) (has_name d fvar name)
 
 -- the number of a named instance. Where none has the name it is the count of instances, which is no instance's number
 abbrev pub number_of : Directory → List ℕ → Named → ℕ

@@ -5,6 +5,7 @@ pub mod Files
 pub mod Instance
 pub mod InstanceRows
 pub mod Laws
+pub mod Listed
 pub mod Names
 pub mod Programs
 pub mod Rules

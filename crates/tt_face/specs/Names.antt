@@ -83,6 +83,10 @@ told_character c = if nat_le 0x20 c && nat_le c 0x7E then c else 0x3F
 abbrev pub told_text : List ℕ → List ℕ
 told_text string = map (λ k. told_character (unsigned_at string (2 * k) 2)) (range_with_len 0 (min 64 (length string / 2)))
 
+-- the name of a face with this nameID
+unfoldable pub name_of : ℕ → Directory → List ℕ
+name_of id d = told_text (string_of id (table_of d name_tag))
+
 -- the full name of a face
 unfoldable pub full_name_of : Directory → List ℕ
 full_name_of d = told_text (string_of full_name (table_of d name_tag))
@@ -133,3 +137,11 @@ no_ascii = refl
 no_table : full_name_of (file_directory (0 ∷ 1 ∷ 0 ∷ 0 ∷ 0 ∷ 0 ∷ 0 ∷ 0 ∷ 0 ∷ 0 ∷ 0 ∷ 0 ∷ [])) ≡ []
 unfolding full_name_of table_of
 no_table = refl
+
+no_name : name_of 258 (file_directory (0 ∷ 1 ∷ 0 ∷ 0 ∷ 0 ∷ 0 ∷ 0 ∷ 0 ∷ 0 ∷ 0 ∷ 0 ∷ 0 ∷ [])) ≡ []
+unfolding name_of table_of
+no_name = refl
+
+full_names_are_names : (d : Directory) → full_name_of d ≡ name_of full_name d
+unfolding full_name_of name_of
+full_names_are_names d = refl

@@ -7,8 +7,9 @@ ghost use Rattle.tt_core.specs.Outcomes.{Gives};
 ghost use Rattle.tt_cmap.specs.Maps.{glyph_count};
 ghost use Rattle.tt_metrics.specs.Metrics.{loca_format_of, glyphs_of};
 ghost use Rattle.tt_face.specs.Defects.{IsGlyphTableDefect, HasProgramPastEnd};
-ghost use Rattle.tt_face.specs.Faces.{glyphs_in, optional_table, programs_of};
-ghost use Rattle.tt_face.specs.Names.{family_name_of, full_name_of};
+ghost use Rattle.tt_face.specs.Faces.{finds_advances, glyphs_in, optional_table, programs_of};
+ghost use Rattle.tt_face.specs.Listed.{variations_of};
+ghost use Rattle.tt_face.specs.Names.{family_name_of, full_name_of, name_of};
 ghost use Rattle.tt_face.specs.Programs.{program_tables};
 ghost use Rattle.tt_face.specs.Rules.{ruled};
 ghost use Rattle.tt_face.specs.Style.{style_of};
@@ -23,7 +24,7 @@ use crate::rules::{LineRules, Opening, kerning_in, table_bytes};
 use crate::style::style_of;
 use std::alloc::{AllocError, Global};
 use std::marker::Model;
-use tt_axes::InstanceCoordinates;
+use tt_axes::{Fvar, InstanceCoordinates};
 use tt_cmap::{CharacterMap, Cmap};
 use tt_core::{Dir, Fault, Reading};
 use tt_deltas::Gvar;
@@ -173,6 +174,23 @@ impl<'a> Face<'a> {
         &self.instance
     }
 
+    /// Whether advances come from the phantom points of glyphs: at an instance of a font without HVAR.
+    pub fn finds_advances(&self) -> bool
+        ensures { result ≡ finds_advances self.now }
+    {
+        self.instance.is_some() && !self.metrics.has_varied_advances()
+    }
+
+    /// The axes and the named instances of a variable font. None where fvar is missing or has a defect.
+    pub fn variations(&self) -> Option<Fvar<'a>>
+        ensures { result ≡ variations_of self.now.directory }
+    {
+        match Fvar::open(&self.dir) {
+            Ok(fvar) => Some(fvar),
+            Err(_) => None,
+        }
+    }
+
     /// Lays lines out by these rules from now on. A face that is opened has exact heights, and no pair is kerned. The
     /// tables GPOS and kern are read with kerning alone, and no defect of theirs is an error.
     #[tactic(auto, unfolding(crate::specs::Rules::ruled))]
@@ -224,6 +242,14 @@ impl<'a> Face<'a> {
         ensures { IfOk result (λ name. name.items ≡ full_name_of self.now.directory) }
     {
         told_text(alloc, string_of(&self.dir, FULL_NAME))
+    }
+
+    /// The name with this number, as `full_name` has it. Error: memory ran out.
+    #[tactic(auto, unfolding(crate::specs::Names::name_of))]
+    pub fn name(&self, alloc: Global, id: u16) -> Result<Vec<u8>, AllocError>
+        ensures { IfOk result (λ name. name.items ≡ name_of id self.now.directory) }
+    {
+        told_text(alloc, string_of(&self.dir, id))
     }
 
     /// The name of the face's family, as `full_name` has it. Error: memory ran out.

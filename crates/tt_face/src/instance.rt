@@ -14,15 +14,16 @@ use tt_axes::{AxisValue, Fvar, InstanceCoordinates, coordinates_of};
 use tt_core::{Dir, Fault};
 use tt_deltas::Gvar;
 
-/// The named instances that can be asked for by their names: those that a list of faces tells (profile).
-const NAMED: usize = 256;
+/// How many named instances a list of faces has of a font: the first ones. These can be asked for by their names
+/// (profile).
+pub const LISTED_INSTANCES: usize = 256;
 
 /// Which named instance a job asks for.
 #[derive(Clone, Copy)]
 pub enum NamedBy<'i> {
     /// By its number, from 0 on.
     Number(u32),
-    /// By its whole name, as a list of faces tells it: at most 64 characters in ASCII. The first of the first 256
+    /// By its whole name, as a list of faces has it: at most 64 characters in ASCII. The first of the first 256
     /// instances that has the name counts.
     Name(&'i [u8]),
 }
@@ -71,6 +72,17 @@ impl<'a> FaceInstance<'a> {
         }
     }
 
+    /// A copy. The tables' bytes are not copied.
+    pub fn copy(&self) -> FaceInstance<'a>
+        ensures { result ≡ self.now }
+    {
+        FaceInstance {
+            coordinates: self.coordinates.copy(),
+            gvar: self.gvar.copy(),
+            cvar: self.cvar,
+        }
+    }
+
     /// The coordinates, of which at least one is not 0.
     pub fn coordinates(&self) -> &InstanceCoordinates
         ensures { result.now ≡ self.now.coordinates }
@@ -94,13 +106,16 @@ impl<'a> FaceInstance<'a> {
     }
 }
 
-/// The number of the first instance with a name.
+/// The number of the first instance with a name. The empty text is none's name.
 #[tactic(auto, using(tt_core::specs::Search::first_from_next, tt_core::specs::Search::first_from_here))]
 fn first_with_name(dir: &Dir, fvar: &Fvar, name: &[u8]) -> Option<usize>
     ensures exact { result ≡ first_with_name dir.now fvar.now name.now }
     ensures bound { IfSome result (λ k. k ≤ 256) }
 {
-    let count = NAMED.min(fvar.instance_count());
+    if name.is_empty() {
+        return None;
+    }
+    let count = LISTED_INSTANCES.min(fvar.instance_count());
     for k in 0..count {
         if is_told(string_of(dir, fvar.instance(k).name), name) {
             return Some(k);

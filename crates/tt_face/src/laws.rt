@@ -1,6 +1,6 @@
 //! Lemmas about the definitions, for all files. No code runs.
 
-ghost use Rattle.tt_face.specs.Laws.{DefaultsAreFaces, GlyphTablesAreWhole, ProgramsAreWhole};
+ghost use Rattle.tt_face.specs.Laws.{AvarRefusesNothing, DefaultsAreFaces, FaultsComeFirst, GlyphTablesAreWhole, GvarAloneRefuses, ProgramsAreWhole, ZeroIsTheDefault};
 ghost use Rattle.tt_face.specs.Instance.{ZeroKeepsFaces};
 ghost use Rattle.tt_face.specs.Files.{FacesAreWhole, ReadFacesAreWhole, StrictIsTheFace, FacesAreTheirFonts, OpenedFacesAreWhole, PlainRulesKeepFaces, RulesKeepFaults, WideFacesExtend};
 
@@ -32,4 +32,13 @@ pub fn rules_keep_faces()
 pub fn defaults_are_faces()
     ensures none { DefaultsAreFaces }
     ensures zero { ZeroKeepsFaces }
+    ensures default { ZeroIsTheDefault }
+{}
+
+/// Lemma: at an instance a file is refused for the faults of its face first, and then for those of fvar, of what is
+/// asked, and of gvar's header. No other table refuses an instance.
+pub fn few_tables_refuse()
+    ensures face { FaultsComeFirst }
+    ensures coordinates { AvarRefusesNothing }
+    ensures tables { GvarAloneRefuses }
 {}

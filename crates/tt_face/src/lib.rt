@@ -10,7 +10,7 @@ mod rules;
 mod style;
 
 pub use face::Face;
-pub use instance::{AskedInstance, FaceInstance, NamedBy};
+pub use instance::{AskedInstance, FaceInstance, LISTED_INSTANCES, NamedBy};
 pub use programs::Programs;
 pub use rules::{LineRules, Opening};
 pub use tt_metrics::Heights;

@@ -1,2 +1,3 @@
-mod Near
 mod Lists
+mod Near
+mod Zipped

@@ -3,6 +3,7 @@
 use Rattle.std.specs.Prelude.{◌≡◌, refl, ℕ, ◌+◌, Bool, true, false, ◌&&◌, nat_le, if◌then◌else◌, ℤ, pos, negsuc, ◌+ℤ◌, ◌-ℤ◌, ◌*ℤ◌, unsigned_abs, int_lt, List, [], ◌∷◌, map, slice_get, Option, Some, None, Result, Ok, Err}
 use Rattle.std.specs.Int.{int_div_euclid}
 use Rattle.tt_core.specs.declared.scaling.Scale.{Scale}
+use Rattle.tt_core.specs.Scales.{rounded_scale}
 use Rattle.tt_core.specs.Faults.{Fault}
 use Rattle.tt_axes.specs.Rounding.{sixty_fourths, whole_units}
 use Rattle.tt_deltas.specs.declared.varied.Varied.{Varied}
@@ -77,12 +78,13 @@ abbrev pub advance_by_ends : ℕ → EndDeltas → ℕ
 advance_by_ends advance d =
     kept (int_div_euclid (pos 64 *ℤ pos advance +ℤ sixty_fourths d.right -ℤ sixty_fourths d.left +ℤ pos 32) (pos 64))
 
--- worked values: an advance of 256 whose right end moves by 64 units, by half of a unit, and by -300
+-- worked values: an advance of 256 whose right end moves by 64 units, by half of a unit, by -1/2, by half of a 64th less, by
+-- more than that, and by 64 while the left end moves by 16; and by -300 units
 abbrev by : ℤ → ℤ → EndDeltas
 by left right = record { left = left; right = right; ascent = pos 0; descent = pos 0 }
 
-advances : map (advance_by_ends 256) (by (pos 0) (pos 4194304) ∷ by (pos 0) (pos 32768) ∷ by (pos 0) (negsuc 32767) ∷ by (pos 0) (negsuc 33279) ∷ by (pos 1048576) (pos 4194304) ∷ by (pos 0) (negsuc 19660799) ∷ [])
-    ≡ 320 ∷ 257 ∷ 256 ∷ 255 ∷ 304 ∷ 0 ∷ []
+advances : map (advance_by_ends 256) (by (pos 0) (pos 4194304) ∷ by (pos 0) (pos 32768) ∷ by (pos 0) (negsuc 32767) ∷ by (pos 0) (negsuc 33279) ∷ by (pos 0) (negsuc 33280) ∷ by (pos 1048576) (pos 4194304) ∷ by (pos 0) (negsuc 19660799) ∷ [])
+    ≡ 320 ∷ 257 ∷ 256 ∷ 256 ∷ 255 ∷ 304 ∷ 0 ∷ []
 advances = refl
 
 -- two points, and phantom points whose deltas are all 1, 2, 3 and 4
@@ -108,3 +110,20 @@ past_the_limit : map (λ right. ends_in_units 22 (its_ends (pos 0) right) (by (p
     ≡ Ok (its_ends (pos 0) (pos 131071)) ∷ Err (coordinate_fault 22) ∷ []
 unfolding ends_in_units
 past_the_limit = refl
+
+-- an advance stays a uint16
+past_65535 : map (advance_by_ends 65535) (by (pos 0) (pos 32767) ∷ by (pos 0) (pos 65536) ∷ by (pos 65536) (pos 0) ∷ [])
+    ≡ 65535 ∷ 65535 ∷ 65534 ∷ []
+past_65535 = refl
+
+-- both limits
+below_the_limit : map (λ left. ends_in_units 22 (its_ends left (pos 0)) (by (negsuc 65535) (pos 0))) (negsuc 131069 ∷ negsuc 131070 ∷ [])
+    ≡ Ok (its_ends (negsuc 131070) (pos 0)) ∷ Err (coordinate_fault 22) ∷ []
+unfolding ends_in_units
+below_the_limit = refl
+
+-- 18.75 64ths of a pixel a unit: ends at 256 and at 34/64 more, an ascent of 256, and a descent of -1/64 unit
+in_pixels : fine_ends (rounded_scale 300 1024) (record { left = (pos 256, pos 0); right = (pos 256, pos 0); ascent = (pos 0, pos 256); descent = (pos 0, pos 0) })
+    (record { left = pos 0; right = pos 34405; ascent = pos 0; descent = negsuc 1023 })
+    ≡ record { left = (pos 4800, pos 0); right = (pos 4810, pos 0); ascent = (pos 0, pos 4800); descent = (pos 0, pos 0) }
+in_pixels = refl

@@ -53,3 +53,14 @@ control_values = refl
 as_without_deltas : varied_control_value (control_value_scale 20 1000) (record { at = pos 950; delta = pos 0 })
     ≡ scaled_by (control_value_scale 20 1000) (pos 950)
 as_without_deltas = refl
+
+-- 100 and 200 units moved by 302/64 and -302/64, at 41 pixels per em of 1024 units: 268.35 and 500.41; and both ends of int16
+moved_by_parts : map (varied_control_value (control_value_scale 41 1024))
+    (record { at = pos 100; delta = pos 309197 } ∷ record { at = pos 200; delta = negsuc 309196 } ∷ [])
+    ≡ pos 268 ∷ pos 500 ∷ []
+moved_by_parts = refl
+
+past_16_bits : map (varied_control_value (exact_scale 16 1024))
+    (record { at = pos 32767; delta = pos 65536 } ∷ record { at = negsuc 32767; delta = negsuc 65535 } ∷ record { at = pos 32766; delta = pos 65536 } ∷ [])
+    ≡ pos 32767 ∷ negsuc 32767 ∷ pos 32767 ∷ []
+past_16_bits = refl

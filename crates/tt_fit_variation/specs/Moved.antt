@@ -44,6 +44,13 @@ with_deltas (p ∷ ps) (x ∷ xs) (y ∷ ys) = record { x = x; y = y; on = p.on 
 abbrev pub instance_points : FontSize → ℕ → List RawPoint → List Varied → List Varied → Result (List InstancePoint) Fault
 instance_points z at points xs ys = each (instance_point z at) (with_deltas points xs ys)
 
+-- the points in 26.6 pixels, and in whole font units
+abbrev pub instance_places : List InstancePoint → List (ℤ × ℤ × Bool)
+instance_places ps = map (λ p. p.place) ps
+
+abbrev pub instance_units : List InstancePoint → List RawPoint
+instance_units ps = map (λ p. p.unit) ps
+
 -- worked values: four 64ths of a pixel a unit; 10 units and a half, a half less, and past the int16 at both ends
 abbrev by : ℤ → ℤ → Varied
 by at delta = record { at = at; delta = delta }
@@ -64,3 +71,9 @@ one_of_two : instance_points (size_by scaling.Exact 16 256) 22 (record { x = pos
     ≡ Ok (record { unit = record { x = pos 8; y = pos 9; on = true }; place = (pos 32, pos 36, true) } ∷ [])
 unfolding instance_point moved_coordinate
 one_of_two = refl
+
+-- 192 and 128 units moved by 34/64 and by -24/64, with 18.75 64ths of a pixel a unit: 3609.96 and 2392.97
+parts_of_a_unit : map (moved_coordinate (size_by scaling.Rounded 300 1024) 22) (by (pos 192) (pos 34405) ∷ by (pos 128) (negsuc 24574) ∷ [])
+    ≡ Ok (pos 193, pos 3610) ∷ Ok (pos 128, pos 2393) ∷ []
+unfolding moved_coordinate
+parts_of_a_unit = refl

@@ -57,3 +57,9 @@ the_first_fault : moved_records (its_record 2 (pos 10) ∷ its_record 2 (pos 327
     ≡ Err (coordinate_fault 32)
 unfolding moved_record
 the_first_fault = refl
+
+-- offsets of 16 and 0 units, half of the way to 63 and -31 more
+half_of_the_way : moved_record (record (its_record 2 (pos 16)) { arg2 = pos 0 }) (by (pos 2064384)) (by (negsuc 1015807))
+    ≡ Ok (record (its_record 2 (pos 48)) { arg2 = negsuc 14 })
+unfolding moved_record
+half_of_the_way = refl

@@ -15,6 +15,6 @@ mod varied_point;
 pub use end::EndDeltas;
 pub use fine::varied_control_value;
 pub use glyph::GlyphVariation;
-pub use points::{InstancePoint, instance_points};
+pub use points::{InstancePoint, instance_places, instance_points, instance_units};
 pub use records::moved_records;
 pub use varied_glyph::GlyphDeltas;

@@ -5,7 +5,7 @@ ghost use Rattle.tt_core.specs.Outcomes.{FontGives, Gives};
 ghost use Rattle.tt_deltas.specs.Along.{IsWithin};
 ghost use Rattle.tt_fit_outline.specs.Outline.{IsPoint};
 ghost use Rattle.tt_fit_outline.specs.Views.{size_view};
-ghost use Rattle.tt_fit_variation.specs.Moved.{instance_point, instance_points, with_deltas};
+ghost use Rattle.tt_fit_variation.specs.Moved.{instance_places, instance_point, instance_points, instance_units, with_deltas};
 ghost use Rattle.tt_fit_variation.specs.Views.{point_view, points_view};
 
 use crate::coordinate::moved_coordinate;
@@ -35,7 +35,8 @@ fn with_deltas(
     requires ys { length points.now ≤ length ys.now }
     requires x_near { All (IsWithin (2 ^ 46)) xs.now }
     requires y_near { All (IsWithin (2 ^ 46)) ys.now }
-    ensures { IfOk result (λ v. v.items ≡ with_deltas points.now xs.now ys.now) }
+    ensures exact { IfOk result (λ v. v.items ≡ with_deltas points.now xs.now ys.now) }
+    ensures count { IfOk result (λ v. length v.items ≡ length points.now) }
 {
     let mut varied = Vec::with_capacity(alloc, points.len())?;
     for i in 0..points.len() {
@@ -80,6 +81,7 @@ pub fn instance_points(
     requires x_near { All (IsWithin (2 ^ 46)) xs.now }
     requires y_near { All (IsWithin (2 ^ 46)) ys.now }
     ensures exact { FontGives (λ v. points_view v.items) result (instance_points (size_view size) at points.now xs.now ys.now) }
+    ensures count { IfOk result (λ v. length v.items ≡ length points.now) }
 {
     let varied = with_deltas(alloc, points, xs, ys)?;
     let mut moved = Vec::with_capacity(alloc, varied.len())?;
@@ -87,4 +89,35 @@ pub fn instance_points(
         moved.push(instance_point(size, at, *point)?)?;
     }
     Ok(moved)
+}
+
+/// The points in 26.6 pixels.
+pub fn instance_places(
+    alloc: Global,
+    points: &[InstancePoint],
+) -> Result<Vec<(i32, i32, bool)>, AllocError>
+    ensures exact { IfOk result (λ v. v.items ≡ instance_places (points_view points.now)) }
+    ensures count { IfOk result (λ v. length v.items ≡ length points.now) }
+    ensures within { IfOk result (λ v. All IsPoint v.items) }
+{
+    let mut places = Vec::with_capacity(alloc, points.len())?;
+    for point in points {
+        places.push(point.place)?;
+    }
+    Ok(places)
+}
+
+/// The points in whole font units.
+pub fn instance_units(
+    alloc: Global,
+    points: &[InstancePoint],
+) -> Result<Vec<RawPoint>, AllocError>
+    ensures exact { IfOk result (λ v. v.items ≡ instance_units (points_view points.now)) }
+    ensures count { IfOk result (λ v. length v.items ≡ length points.now) }
+{
+    let mut units = Vec::with_capacity(alloc, points.len())?;
+    for point in points {
+        units.push(point.unit)?;
+    }
+    Ok(units)
 }

@@ -1,6 +1,6 @@
 //! The components of a composite glyph at an instance. OpenType, "gvar".
 
-ghost use Rattle.std.specs.Prelude.{◌≡◌, ◌^◌, ◌≤◌, ◌+ℤ◌, length, unsigned_abs, All, IfOk};
+ghost use Rattle.std.specs.Prelude.{◌≡◌, ◌^◌, ◌<◌, ◌≤◌, ◌+ℤ◌, ℕ, length, unsigned_abs, All, IfOk};
 ghost use Rattle.tt_core.specs.Outcomes.{FontGives, Gives};
 ghost use Rattle.tt_axes.specs.Rounding.{whole_units};
 ghost use Rattle.tt_deltas.specs.Along.{IsWithin};
@@ -58,6 +58,7 @@ pub fn moved_records(
     requires arguments { All HasArguments records.now }
     ensures exact { FontGives (λ v. v.items) result (moved_records records.now xs.now ys.now) }
     ensures arguments { IfOk result (λ v. All HasArguments v.items) }
+    ensures known { (glyphs : ℕ) → All (λ r. r.glyph < glyphs) records.now → IfOk result (λ v. All (λ r. r.glyph < glyphs) v.items) }
 {
     let mut moved = Vec::with_capacity(alloc, records.len())?;
     for i in 0..records.len() {

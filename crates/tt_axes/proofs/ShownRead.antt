@@ -1,0 +1,182 @@
+-- A decimal that is shown is read as the same value: the digits before the point, the digits behind it, and the sign.
+use Rattle.std.proofs.Common.{◌≡◌, ◌∙◌, ℕ, zero, suc, ◌+◌, ◌-◌, ◌*◌, ◌/◌, ◌%◌, ◌^◌, ◌<◌, ◌≤◌, ◌==◌, nat_lt, nat_le, Bool, true, false, ℤ, pos, negsuc, List, [], ◌∷◌, ◌++◌, length, drop, Option, Some, None, inl, inr, refl, ap, arith}
+use Rattle.std.specs.Prelude.{neg_ℤ, int_lt, unsigned_abs, decimal, slice_index, All}
+use Rattle.std.proofs.lemmas.Bool.{cases_eq}
+use Rattle.std.proofs.lemmas.Bool.Decides.{nat_tests}
+use Rattle.std.proofs.lemmas.Fmt.{decimal_by_steps, decimal_nonempty, length-decimal-le}
+use Rattle.std.proofs.lemmas.Int.{ints}
+use Rattle.tt_core.specs.Cutting.{after, before}
+use Rattle.tt_axes.specs.AxisWords.{by_digits, digit_value, fraction_of, unsigned_value, value_of, with_digit, with_digits}
+use Rattle.tt_axes.specs.Shares.{portion}
+use Rattle.tt_axes.specs.ShownValues.{fraction_digits, hundred_thousandths, shown_fraction, shown_parts, shown_value, ValuesAreRead}
+use Rattle.tt_axes.proofs.ShownParts.{parts-read}
+
+its-value : (d : ℕ) → d < 10 → digit_value (48 + d) ≡ Some d
+its-value d small = grind (arith, nat_tests)
+
+with-last : (o : Option ℕ) (ds : List ℕ) (n d : ℕ) → d < 10 → with_digits o ds ≡ Some n → with_digits o (ds ++ (48 + d) ∷ []) ≡ Some (10 * n + d)
+with-last None ds n d small was = absurd cc
+with-last (Some k) [] n d small was = let same : k ≡ n = cc in rw (its-value d small, same) refl
+with-last (Some k) (x ∷ xs) n d small was = with-last (with_digit k (digit_value x)) xs n d small was
+
+-- the digits of a whole number
+record IsWhole (n : ℕ) (ds : List ℕ) : Type 0 where
+  value : with_digits (Some 0) ds ≡ Some n
+  digits : All (λ c. (48 ≤ c) × (c ≤ 57)) ds
+
+all-last : (ds : List ℕ) (d : ℕ) → d < 10 → All (λ c. (48 ≤ c) × (c ≤ 57)) ds → All (λ c. (48 ≤ c) × (c ≤ 57)) (ds ++ (48 + d) ∷ [])
+all-last [] d small all = ((omega arith, omega arith), tt)
+all-last (x ∷ xs) d small all = (all.0, all-last xs d small all.1)
+
+one-whole : (n : ℕ) → n < 10 → IsWhole n ((48 + n) ∷ [])
+one-whole n small = record { value = rw (its-value n small) refl; digits = ((omega arith, omega arith), tt) }
+
+more-whole : (n : ℕ) (ds : List ℕ) → 10 ≤ n → IsWhole (n / 10) ds → IsWhole n (ds ++ (48 + n % 10) ∷ [])
+more-whole n ds large so_far =
+    let same : 10 * (n / 10) + n % 10 ≡ n = omega arith in
+    record {
+      value = with-last (Some 0) ds (n / 10) (n % 10) (omega arith) so_far.value ∙ ap Some same;
+      digits = all-last ds (n % 10) (omega arith) so_far.digits;
+    }
+
+whole-digits : (n : ℕ) → n < 2 ^ 64 → IsWhole n (decimal n)
+whole-digits n small = decimal_by_steps IsWhole one-whole more-whole n small
+
+-- the digits of a fraction, behind others that make k
+record IsFraction (k rest n : ℕ) (ds : List ℕ) : Type 0 where
+  made : ℕ
+  value : with_digits (Some k) ds ≡ Some made
+  weighed : made * 10 ^ (n - length ds) ≡ k * 10 ^ n + rest
+  long : length ds ≤ n
+
+ten-power : (n : ℕ) → 0 < 10 ^ n
+ten-power zero = omega arith
+ten-power (suc n) = omega (arith, ten-power n)
+
+digit-below : (rest n : ℕ) → rest < 10 ^ suc n → rest / 10 ^ n < 10
+digit-below rest n below = let some = ten-power n in grind (arith, some)
+
+rest-below : (rest n : ℕ) → rest % 10 ^ n < 10 ^ n
+rest-below rest n = omega (arith, ten-power n)
+
+in-parts : (k rest n : ℕ) → (10 * k + rest / 10 ^ n) * 10 ^ n + rest % 10 ^ n ≡ k * 10 ^ suc n + rest
+in-parts k rest n = let some = ten-power n in grind (arith, some)
+
+fraction-read : (k rest n : ℕ) → rest < 10 ^ n → IsFraction k rest n (fraction_digits rest n)
+fraction-read k rest zero below =
+    record { made = k; value = refl; weighed = omega (arith, below); long = omega arith }
+fraction-read k rest (suc n) below = elim (cases_eq rest 0) [
+  | inl is ↦ rw is (record { made = k; value = refl; weighed = omega arith; long = omega arith })
+  | inr some ↦
+      let d = rest / 10 ^ n in
+      let digit = digit-below rest n below in
+      let others = fraction-read (10 * k + d) (rest % 10 ^ n) n (rest-below rest n) in
+      rw some (record {
+        made = others.made;
+        value = rw (its-value d digit) others.value;
+        weighed = others.weighed ∙ in-parts k rest n;
+        long = omega (arith, others.long);
+      })
+]
+
+-- where the point is
+
+no-point : (c : ℕ) → 48 ≤ c → (c == 46) ≡ false
+no-point c large = grind (arith, nat_tests)
+
+abbrev AreDigits : List ℕ → Type 0
+AreDigits ds = All (λ c. (48 ≤ c) × (c ≤ 57)) ds
+
+before-point : (ds fs : List ℕ) → AreDigits ds → before 46 (ds ++ 46 ∷ fs) ≡ ds
+before-point [] fs all = refl
+before-point (x ∷ xs) fs all = rw (no-point x all.0.0) (ap (λ (ys : List ℕ). x ∷ ys) (before-point xs fs all.1))
+
+after-point : (ds fs : List ℕ) → AreDigits ds → after 46 (ds ++ 46 ∷ fs) ≡ Some fs
+after-point [] fs all = refl
+after-point (x ∷ xs) fs all = rw (no-point x all.0.0) (after-point xs fs all.1)
+
+before-end : (ds : List ℕ) → AreDigits ds → before 46 (ds ++ []) ≡ ds
+before-end [] all = refl
+before-end (x ∷ xs) all = rw (no-point x all.0.0) (ap (λ (ys : List ℕ). x ∷ ys) (before-end xs all.1))
+
+no-after : (ds : List ℕ) → AreDigits ds → after 46 (ds ++ []) ≡ None
+no-after [] all = refl
+no-after (x ∷ xs) all = rw (no-point x all.0.0) (no-after xs all.1)
+
+-- 1 to 5 digits
+
+some-digits : (l : ℕ) → 0 < l → nat_lt l 1 ≡ false
+some-digits l some = grind (arith, nat_tests)
+
+few-digits : (l : ℕ) → l ≤ 5 → nat_lt 5 l ≡ false
+few-digits l few = grind (arith, nat_tests)
+
+digits-read : (ds : List ℕ) → 0 < length ds → length ds ≤ 5 → by_digits ds ≡ with_digits (Some 0) ds
+digits-read ds some few = rw (some-digits (length ds) some, few-digits (length ds) few) refl
+
+whole-read : (w : ℕ) → w < 100000 → by_digits (decimal w) ≡ Some w
+whole-read w small =
+    digits-read (decimal w) (decimal_nonempty w (omega (arith, small))) (length-decimal-le 5 w (omega arith) (omega (arith, small)) (omega (arith, small)))
+    ∙ (whole-digits w (omega (arith, small))).value
+
+some-fraction : (rest n : ℕ) → (rest == 0) ≡ false → 0 < length (fraction_digits rest (suc n))
+some-fraction rest n some = rw some (omega arith)
+
+fraction-is : (f : ℕ) → (f == 0) ≡ false → f < 100000 → fraction_of (Some (fraction_digits f 5)) ≡ Some f
+fraction-is f some small =
+    let read = fraction-read 0 f 5 small in
+    let all = digits-read (fraction_digits f 5) (some-fraction f 4 some) read.long in
+    let weighed : read.made * 10 ^ (5 - length (fraction_digits f 5)) ≡ f = omega (arith, read.weighed) in
+    rw (all, read.value) (ap Some weighed)
+
+-- a number of 1/100000
+
+below-limit : (w : ℕ) → w < 32768 → nat_lt w 32768 ≡ true
+below-limit w small = grind (arith, nat_tests)
+
+parts-shown : (n f : ℕ) → n % 100000 ≡ f → n < 3276800000 → unsigned_value (decimal (n / 100000) ++ shown_fraction f) ≡ Some (portion 65536 n 100000)
+parts-shown n f is small =
+    let w = n / 100000 in
+    let below : w < 32768 = omega (arith, small) in
+    let all = (whole-digits w (omega (arith, small))).digits in
+    let value = whole-read w (omega (arith, below)) in
+    let same : 100000 * w + f ≡ n = omega (arith, is) in
+    elim (cases_eq f 0) [
+      | inl zero_is ↦
+          let same_0 : 100000 * w + 0 ≡ n = omega (arith, same, zero_is) in
+          rw (zero_is, before-end (decimal w) all, no-after (decimal w) all, value, below-limit w below)
+          (ap (λ m. Some (portion 65536 m 100000)) same_0)
+      | inr some ↦
+          rw (some, before-point (decimal w) (fraction_digits f 5) all, after-point (decimal w) (fraction_digits f 5) all, value,
+              fraction-is f some (omega (arith, is)), below-limit w below)
+          (ap (λ m. Some (portion 65536 m 100000)) same)
+    ]
+
+magnitude-read : (n : ℕ) → n < 2 ^ 31 → unsigned_value (shown_parts (hundred_thousandths n)) ≡ Some n
+magnitude-read n small =
+    parts-shown (hundred_thousandths n) (hundred_thousandths n % 100000) refl (omega (arith, small)) ∙ ap Some (parts-read n)
+
+-- the sign
+
+first-digit : (ds fs : List ℕ) → 0 < length ds → AreDigits ds → (slice_index (ds ++ fs) 0 == 45) ≡ false
+first-digit [] fs some all = absurd (omega (arith, some))
+first-digit (x ∷ xs) fs some all = let large = all.0.0 in grind (arith, nat_tests)
+
+not-below-0 : (n : ℕ) → int_lt (pos n) (pos 0) ≡ false
+not-below-0 n = grind (arith, ints)
+
+positive-read : (n : ℕ) → n < 2 ^ 31 → value_of (shown_value (pos n)) ≡ Some (pos n)
+unfolding value_of shown_value
+positive-read n small =
+    let w = hundred_thousandths n / 100000 in
+    let little : w < 2 ^ 64 = omega (arith, small) in
+    let unsigned = first-digit (decimal w) (shown_fraction (hundred_thousandths n % 100000)) (decimal_nonempty w little) (whole-digits w little).digits in
+    rw (not-below-0 n, unsigned, magnitude-read n small) refl
+
+negative-read : (n : ℕ) → suc n < 2 ^ 31 → value_of (shown_value (negsuc n)) ≡ Some (negsuc n)
+unfolding value_of shown_value
+negative-read n small = rw (magnitude-read (suc n) small) refl
+
+pub values-read : ValuesAreRead
+values-read (pos n) small = positive-read n small
+values-read (negsuc n) small = negative-read n small
