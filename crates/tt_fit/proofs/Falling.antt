@@ -1,5 +1,5 @@
 -- Which glyphs are unfitted, and their outlines.
-use Rattle.std.proofs.Common.{◌≡◌, ◌≢◌, ◌∙◌, sym, ap, ℕ, true, Option, Some, None, Result, Ok, Err, OnOk, refl, ℤ, List}
+use Rattle.std.proofs.Common.{◌≡◌, ◌≢◌, ◌∙◌, sym, ap, ℕ, true, Option, Some, None, Result, Ok, Err, OnOk, refl}
 use Rattle.tt_core.specs.Faults.{Fault}
 use Rattle.tt_core.specs.declared.font_fault.FontFault.{FontFault}
 use Rattle.tt_core.specs.declared.font_fault.FontFault.TheVariants as font
@@ -10,10 +10,12 @@ use Rattle.tt_metrics.specs.Metrics.{Metrics}
 use Rattle.tt_fit.specs.declared.dropouts.DropoutsBy.{DropoutsBy}
 use Rattle.tt_fit.specs.declared.programs.Fit.{Fit}
 use Rattle.tt_fit.specs.declared.programs.Fit.TheVariants as fit
+use Rattle.tt_fit.specs.DeltaCounting.{control_deltas_of}
 use Rattle.tt_fit.specs.Fallback.{Fallback, never, where_refused, everywhere, is_program_fault}
 use Rattle.tt_fit.specs.Fitting.{Fitter, with_hinting, outline_at, outline_work, glyph_work, unfitted_fault, fitted_outline, left_after_glyph, after_glyph}
 use Rattle.tt_fit.specs.Laws.{HasWork, ProgramsHaveWork, UnboundedIsEnough, OthersAreUnbounded, UnboundedStays, SpentWorkUnfits, SpentProgramsUnfitAll}
 use Rattle.tt_fit_outline.specs.Outline.{Outline}
+use Rattle.tt_face.specs.Faces.{FaceInstance}
 use Rattle.tt_face.specs.Programs.{ProgramTables}
 use Rattle.tt_fit.specs.Preparation.{left_at, work_at, prepared_by, prepared, fitter_with, fitter_of}
 use Rattle.tt_fit_hinting.specs.Hinting.{Hinting, off}
@@ -108,42 +110,50 @@ on-told (Ok x) Q holds = tt
 on-told (Err (font.Font f)) Q holds = holds
 on-told (Err font.Memory) Q holds = tt
 
--- the fitter with this source of dropout rules
-abbrev pub filled : DropoutsBy → Fitter → Fitter
-filled who s = record s { dropouts = who }
+-- what a fitter has besides: the work of the deltas of control values, and the source of dropout rules
+pub record Besides : Type 0 where
+  pub deltas : ℕ
+  pub dropouts : DropoutsBy
+
+abbrev pub besides : Option FaceInstance → ProgramTables → Fit → Besides
+besides instance programs how =
+    record { deltas = control_deltas_of instance how programs.cvt; dropouts = dropouts_by how }
+
+abbrev pub filled : Besides → Fitter → Fitter
+filled who s = record s { control_deltas = who.deltas; dropouts = who.dropouts }
 
 -- the fitter of a fit, by the state after the two programs, and their work
-abbrev pub fitter_by : Metrics → Glyf → ℕ → Fit → DropoutsBy → Worked → Result Hinting Fault → Result Fitter Fault
-fitter_by m tables ppem how who worked left =
-    prepared_by how worked left >>= λ p. Ok (filled who (fitter_with m tables ppem how p.hinting p.fallback p.work))
+abbrev pub fitter_by : Metrics → Glyf → Option FaceInstance → ℕ → Fit → Besides → Worked → Result Hinting Fault → Result Fitter Fault
+fitter_by m tables instance ppem how who worked left =
+    prepared_by how worked left >>= λ p. Ok (filled who (fitter_with m tables instance ppem how p.hinting p.fallback p.work))
 
 -- a fitter with no glyph unfitted
-pub alone-is : (m : Metrics) (tables : Glyf) (ppem : ℕ) (how : Fit) (hinting : Hinting) (fallback : Fallback)
-    (work : Option ℕ) (g : ℕ) → fitted_outline (fitter_with m tables ppem how hinting never None) g
-    ≡ outline_at (with_hinting (fitter_with m tables ppem how hinting fallback work) hinting) (levels_of how) g
-alone-is m tables ppem how hinting fallback work g =
-    let t = fitter_with m tables ppem how hinting never None in made-fitted t g (never-unfitted t g refl)
+pub alone-is : (m : Metrics) (tables : Glyf) (instance : Option FaceInstance) (ppem : ℕ) (how : Fit) (hinting : Hinting) (fallback : Fallback)
+    (work : Option ℕ) (g : ℕ) → fitted_outline (fitter_with m tables instance ppem how hinting never None) g
+    ≡ outline_at (with_hinting (fitter_with m tables instance ppem how hinting fallback work) hinting) (levels_of how) g
+alone-is m tables instance ppem how hinting fallback work g =
+    let t = fitter_with m tables instance ppem how hinting never None in made-fitted t g (never-unfitted t g refl)
 
 -- unbounded work
 pub unbounded-is-enough : UnboundedIsEnough
 unbounded-is-enough s g = of-outline (with_hinting s s.hinting) s.levels g
 
-unbounded-by : (m : Metrics) (tables : Glyf) (ppem : ℕ) (how : Fit) (who : DropoutsBy) (s : Fitter) (worked : Worked)
-    (left : Result Hinting Fault) → how ≢ fit.Best → fitter_by m tables ppem how who worked left ≡ Ok s → s.work ≡ None
-unbounded-by m tables ppem fit.None who s worked left other is =
-    let same : filled who (fitter_with m tables ppem fit.None off never None) ≡ s = cc in rw (← same) refl
-unbounded-by m tables ppem fit.Full who s worked (Ok hinting) other is =
-    let same : filled who (fitter_with m tables ppem fit.Full hinting never None) ≡ s = cc in rw (← same) refl
-unbounded-by m tables ppem fit.Full who s worked (Err f) other is = absurd cc
-unbounded-by m tables ppem fit.Fallback who s worked (Ok hinting) other is =
-    let same : filled who (fitter_with m tables ppem fit.Fallback hinting where_refused None) ≡ s = cc in
+unbounded-by : (m : Metrics) (tables : Glyf) (instance : Option FaceInstance) (ppem : ℕ) (how : Fit) (who : Besides) (s : Fitter) (worked : Worked)
+    (left : Result Hinting Fault) → how ≢ fit.Best → fitter_by m tables instance ppem how who worked left ≡ Ok s → s.work ≡ None
+unbounded-by m tables instance ppem fit.None who s worked left other is =
+    let same : filled who (fitter_with m tables instance ppem fit.None off never None) ≡ s = cc in rw (← same) refl
+unbounded-by m tables instance ppem fit.Full who s worked (Ok hinting) other is =
+    let same : filled who (fitter_with m tables instance ppem fit.Full hinting never None) ≡ s = cc in rw (← same) refl
+unbounded-by m tables instance ppem fit.Full who s worked (Err f) other is = absurd cc
+unbounded-by m tables instance ppem fit.Fallback who s worked (Ok hinting) other is =
+    let same : filled who (fitter_with m tables instance ppem fit.Fallback hinting where_refused None) ≡ s = cc in
     rw (← same) refl
-unbounded-by m tables ppem fit.Fallback who s worked (Err f) other is =
-    let same : filled who (fitter_with m tables ppem fit.Fallback off (everywhere f) None) ≡ s = cc in
+unbounded-by m tables instance ppem fit.Fallback who s worked (Err f) other is =
+    let same : filled who (fitter_with m tables instance ppem fit.Fallback off (everywhere f) None) ≡ s = cc in
     rw (← same) refl
-unbounded-by m tables ppem fit.Best who s worked left other is = absurd (other refl)
+unbounded-by m tables instance ppem fit.Best who s worked left other is = absurd (other refl)
 
-programs-unbounded : (m : Metrics) (programs : ProgramTables) (instance : List ℤ) (ppem : ℕ) (how : Fit)
+programs-unbounded : (m : Metrics) (programs : ProgramTables) (instance : Option FaceInstance) (ppem : ℕ) (how : Fit)
     → how ≢ fit.Best
     → ProgramsHaveWork m programs instance ppem how
 programs-unbounded m programs instance ppem fit.Full other = (None, of-left m programs instance ppem fit.Full)
@@ -154,9 +164,9 @@ programs-unbounded m programs instance ppem fit.Best other = absurd (other refl)
 pub others-are-unbounded : OthersAreUnbounded
 unfolding fitter_of prepared
 others-are-unbounded m tables programs instance ppem how s other is =
-    let who = dropouts_by how in
+    let who = besides instance programs how in
     let worked = work_at m programs instance ppem how in (
-      unbounded-by m tables ppem how who s worked (left_at m programs instance ppem how) other is,
+      unbounded-by m tables instance ppem how who s worked (left_at m programs instance ppem how) other is,
       programs-unbounded m programs instance ppem how other,
     )
 
@@ -180,19 +190,19 @@ pub spent-work-unfits : SpentWorkUnfits
 spent-work-unfits s g f is over =
     let some = unfitted-where-spent s g f is over in (made-unfitted s g f some, some)
 
-over-by : (m : Metrics) (tables : Glyf) (ppem : ℕ) (who : DropoutsBy) (s : Fitter) (g : ℕ) (f : Fault)
+over-by : (m : Metrics) (tables : Glyf) (instance : Option FaceInstance) (ppem : ℕ) (who : Besides) (s : Fitter) (g : ℕ) (f : Fault)
     (worked : Worked) (left : Result Hinting Fault) → worked ≡ spent f
-    → fitter_by m tables ppem fit.Best who worked left ≡ Ok s
-    → (fitted_outline s g ≡ fitted_outline (fitter_with m tables ppem fit.Best off never None) g)
+    → fitter_by m tables instance ppem fit.Best who worked left ≡ Ok s
+    → (fitted_outline s g ≡ fitted_outline (fitter_with m tables instance ppem fit.Best off never None) g)
     × (unfitted_fault s g ≡ Some f)
-over-by m tables ppem who s g f (enough l) left over is = absurd cc
-over-by m tables ppem who s g f (spent told) left over is =
-    let t = filled who (fitter_with m tables ppem fit.Best off (everywhere told) (Some 0)) in
+over-by m tables instance ppem who s g f (enough l) left over is = absurd cc
+over-by m tables instance ppem who s g f (spent told) left over is =
+    let t = filled who (fitter_with m tables instance ppem fit.Best off (everywhere told) (Some 0)) in
     let known : told ≡ f = cc in
     let same : t ≡ s = cc in
     let some = unfitted-everywhere t g told refl in
     rw (← same, ← known)
-    (made-unfitted t g told some ∙ sym (alone-is m tables ppem fit.Best off never None g), some)
+    (made-unfitted t g told some ∙ sym (alone-is m tables instance ppem fit.Best off never None g), some)
 
 pub spent-programs-unfit-all : SpentProgramsUnfitAll
 unfolding fitter_of prepared
@@ -201,6 +211,6 @@ spent-programs-unfit-all m tables programs instance ppem fit.None s g f falls is
 spent-programs-unfit-all m tables programs instance ppem fit.Fallback s g f falls is over =
     let free : work_at m programs instance ppem fit.Fallback ≡ enough None = of-left m programs instance ppem fit.Fallback in absurd cc
 spent-programs-unfit-all m tables programs instance ppem fit.Best s g f falls is over =
-    let who = dropouts_by fit.Best in
-    over-by m tables ppem who s g f (work_at m programs instance ppem fit.Best)
+    let who = besides instance programs fit.Best in
+    over-by m tables instance ppem who s g f (work_at m programs instance ppem fit.Best)
     (left_at m programs instance ppem fit.Best) over is

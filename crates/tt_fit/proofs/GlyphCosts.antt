@@ -6,19 +6,17 @@ use Rattle.tt_fit_hinting.specs.machine.Parts.{Parts}
 use Rattle.tt_fit_hinting.specs.machine.RunCost.{HasCost}
 use Rattle.tt_fit_hinting.specs.machine.Work.{Worked}
 use Rattle.tt_face.specs.Programs.{ProgramTables}
-use Rattle.tt_fit.specs.Fitting.{Fitter, with_hinting, size_of, start, simple_start, composite_program, simple_program, joined, added, simple_work, composite_work, made_work, work_by, added_work, glyph_work}
+use Rattle.tt_fit.specs.Fitting.{Fitter, with_hinting, begun_glyph, joined, added, finished_work, made_work, work_by, added_work, glyph_work}
 use Rattle.tt_fit.specs.GlyphCost.{GlyphsHaveCosts}
 use Rattle.tt_fit.specs.Preparation.{font_program, control_value_program, with_definitions, programs_work}
 use Rattle.tt_fit.specs.Work.{joined_work}
 use Rattle.tt_fit_hinting.proofs.ProgramCosts.{after-ok, of-code, of-hinted}
 use Rattle.tt_fit_hinting.specs.Hinting.{run_of}
 use Rattle.tt_fit_outline.specs.Outline.{Outline}
-use Rattle.tt_fit_outline.specs.Scaling.{scaled_outline}
 use Rattle.tt_fit_hinting.specs.Work.{if_ok, code_work, hinted_work}
 use Rattle.tt_glyf.specs.declared.raw.Record.{Record}
 use Rattle.tt_glyf.specs.GlyphData.{glyph_data_of}
-use Rattle.tt_glyf.specs.Loca.{glyph_offset}
-use Rattle.tt_glyf.specs.Raw.{Raw, empty, simple, composite}
+use Rattle.tt_glyf.specs.Raw.{Raw}
 
 of-joined : (add : Record → Outline → Result Outline Fault) (work : Record → Option ℕ → Worked)
     → ((r : Record) → HasCost (work r)) → (rs : List Record) (o : Outline) → HasCost (joined_work add work rs o)
@@ -29,18 +27,12 @@ of-joined add work each (r ∷ rs) o =
 
 of-made : (s : Fitter) (add : Record → Outline → Result Outline Fault) (work : Record → Option ℕ → Worked)
     → ((r : Record) → HasCost (work r)) → (g : ℕ) (d : Raw) → HasCost (made_work s add work g d)
-of-made s add work each g empty = free
-of-made s add work each g (simple d) =
-    let program = simple_program s g d in
-    after-ok (simple_start s d.x_min g d.code) (simple_work s g d.points d.ends program)
-    (λ o. after-ok (scaled_outline (size_of s) (glyph_offset s.tables g) d.points d.ends o)
-    (hinted_work s.hinting program) (of-hinted s.hinting program))
-of-made s add work each g (composite d) =
-    let program = composite_program s g d in
-    after-ok (start s d.x_min g) (composite_work s add work d.records program)
-    (λ o. costs_both (joined_work add work d.records o) (if_ok (joined add d.records o) (hinted_work s.hinting program))
-    (of-joined add work each d.records o)
-    (after-ok (joined add d.records o) (hinted_work s.hinting program) (of-hinted s.hinting program)))
+of-made s add work each g d =
+    after-ok (begun_glyph s g d) (finished_work s add work)
+    (λ b. costs_both (joined_work add work b.records b.outline)
+    (if_ok (joined add b.records b.outline) (hinted_work s.hinting b.program))
+    (of-joined add work each b.records b.outline)
+    (after-ok (joined add b.records b.outline) (hinted_work s.hinting b.program) (of-hinted s.hinting b.program)))
 
 of-one : (s : Fitter) (add : Record → Outline → Result Outline Fault) (work : Record → Option ℕ → Worked)
     → ((r : Record) → HasCost (work r)) → (g : ℕ) → HasCost (work_by s add work g)

@@ -1,4 +1,4 @@
--- One record more, one level of components, and a simple glyph.
+-- One record more, one level of components, and a glyph that is begun.
 use Rattle.std.proofs.Common.{◌≡◌, ℕ, zero, suc, ◌+◌, ◌-◌, ◌<◌, List, length, drop, get_or, Option, IfSome, Result, Ok, Err, refl, arith, add-one, drop-cons}
 use Rattle.tt_core.specs.Faults.{Fault}
 use Rattle.tt_core.specs.Outcomes.{◌>>=◌, font_fault}
@@ -10,13 +10,11 @@ use Rattle.tt_fit_hinting.specs.declared.outline_fault.OutlineFault.{OutlineFaul
 use Rattle.tt_fit_hinting.specs.declared.outline_fault.OutlineFault.TheVariants as outline
 use Rattle.tt_fit_outline.specs.Joining.{placed}
 use Rattle.tt_glyf.specs.GlyphData.{glyph_data_of}
-use Rattle.tt_glyf.specs.Loca.{glyph_offset}
-use Rattle.tt_glyf.specs.Raw.{CompositeGlyph, SimpleGlyph, composite, simple}
+use Rattle.tt_glyf.specs.Raw.{Raw}
 use Rattle.tt_fit_hinting.specs.Hinting.{hinted}
-use Rattle.tt_fit.specs.Fitting.{Fitter, size_of, start, glyph_grid, simple_start, simple_program, composite_program, joined, added, outline_at, added_work, outline_work}
+use Rattle.tt_fit.specs.Fitting.{Begun, Fitter, size_of, glyph_grid, begun_glyph, joined, finished, added, outline_at, finished_work, added_work, outline_work}
 use Rattle.tt_fit_outline.specs.Outline.{Outline}
-use Rattle.tt_fit_outline.specs.Scaling.{scaled_outline}
-use Rattle.tt_fit_hinting.specs.Work.{RefusalLeaves, outline_fault, outline_fault_of}
+use Rattle.tt_fit_hinting.specs.Work.{RefusalLeaves, hinted_work, outline_fault, outline_fault_of}
 use Rattle.tt_fit.specs.Work.{joined_work}
 
 pub one_record_more : (add : Record → Outline → Result Outline Fault) (rs : List Record) (i : ℕ) (d : Record)
@@ -38,33 +36,40 @@ pub one_level_done : (s : Fitter) (levels : ℕ) (r : Record) (o component : Out
     → outline_at s (levels - 1) r.glyph ≡ Ok component → added s levels r o ≡ placed (glyph_grid s) (size_of s) r component o
 one_level_done s levels r o component some made = rw (one_level s levels r o some, made) refl
 
--- a simple glyph that was read, begun without points, and scaled
-pub simple_made : (s : Fitter) (levels g : ℕ) (d : SimpleGlyph) (o scaled : Outline)
-    → glyph_data_of s.tables g ≡ Ok (simple d) → simple_start s d.x_min g d.code ≡ Ok o
-    → scaled_outline (size_of s) (glyph_offset s.tables g) d.points d.ends o ≡ Ok scaled
-    → outline_at s levels g ≡ hinted s.hinting (simple_program s g d) scaled
-simple_made s levels g d o scaled read begun scales = rw (read, begun, scales) refl
+-- a glyph that was read and begun
+pub glyph_made : (s : Fitter) (levels g : ℕ) (raw : Raw) (b : Begun) → glyph_data_of s.tables g ≡ Ok raw
+    → begun_glyph s g raw ≡ Ok b → outline_at s levels g ≡ finished s (added s levels) b
+glyph_made s levels g raw b read begins = rw (read, begins) refl
 
--- its points are not scaled: the fault is the answer, and no program runs
-pub simple_refused : (s : Fitter) (levels g : ℕ) (d : SimpleGlyph) (o : Outline) (fault : FontFault)
-    → glyph_data_of s.tables g ≡ Ok (simple d) → simple_start s d.x_min g d.code ≡ Ok o
-    → IfSome (font_fault fault) (λ f. scaled_outline (size_of s) (glyph_offset s.tables g) d.points d.ends o ≡ Err f)
+pub glyph_paid : (s : Fitter) (levels g : ℕ) (raw : Raw) (b : Begun) (left : Option ℕ)
+    → glyph_data_of s.tables g ≡ Ok raw → begun_glyph s g raw ≡ Ok b
+    → outline_work s levels g left ≡ finished_work s (added s levels) (added_work s levels) b left
+glyph_paid s levels g raw b left read begins = rw (read, begins) refl
+
+-- it cannot be begun: the fault is the answer, and no program runs
+pub glyph_refused : (s : Fitter) (levels g : ℕ) (raw : Raw) (fault : FontFault) → glyph_data_of s.tables g ≡ Ok raw
+    → IfSome (font_fault fault) (λ f. begun_glyph s g raw ≡ Err f)
     → IfSome (outline_fault (outline_fault_of fault)) (λ f. outline_at s levels g ≡ Err f)
-simple_refused s levels g d o (font.Font f) read begun fails = rw (read, begun, fails) refl
-simple_refused s levels g d o font.Memory read begun fails = tt
+glyph_refused s levels g raw (font.Font f) read fails = rw (read, fails) refl
+glyph_refused s levels g raw font.Memory read fails = tt
 
-pub simple_unpaid : (s : Fitter) (levels g : ℕ) (d : SimpleGlyph) (o : Outline) (fault : FontFault) (left : Option ℕ)
-    → glyph_data_of s.tables g ≡ Ok (simple d) → simple_start s d.x_min g d.code ≡ Ok o
-    → IfSome (font_fault fault) (λ f. scaled_outline (size_of s) (glyph_offset s.tables g) d.points d.ends o ≡ Err f)
+pub glyph_unpaid : (s : Fitter) (levels g : ℕ) (raw : Raw) (fault : FontFault) (left : Option ℕ)
+    → glyph_data_of s.tables g ≡ Ok raw → IfSome (font_fault fault) (λ f. begun_glyph s g raw ≡ Err f)
     → RefusalLeaves (outline_fault_of fault) left (outline_work s levels g left)
-simple_unpaid s levels g d o (font.Font f) left read begun fails = rw (read, begun, fails) refl
-simple_unpaid s levels g d o font.Memory left read begun fails = tt
+glyph_unpaid s levels g raw (font.Font f) left read fails = rw (read, fails) refl
+glyph_unpaid s levels g raw font.Memory left read fails = tt
 
-pub composite_made : (s : Fitter) (levels g : ℕ) (d : CompositeGlyph) (o so_far : Outline)
-    → glyph_data_of s.tables g ≡ Ok (composite d) → start s d.x_min g ≡ Ok o
-    → joined (added s levels) d.records o ≡ Ok so_far
-    → outline_at s levels g ≡ hinted s.hinting (composite_program s g d) so_far
-composite_made s levels g d o so_far read begun joins = rw (read, begun, joins) refl
+-- its components were added
+pub glyph_joined : (s : Fitter) (levels : ℕ) (b : Begun) (all : Outline)
+    → joined (added s levels) b.records b.outline ≡ Ok all
+    → finished s (added s levels) b ≡ hinted s.hinting b.program all
+glyph_joined s levels b all joins = rw joins refl
+
+pub glyph_joined_work : (s : Fitter) (levels : ℕ) (b : Begun) (all : Outline) (left rest : Option ℕ)
+    → joined (added s levels) b.records b.outline ≡ Ok all
+    → joined_work (added s levels) (added_work s levels) b.records b.outline left ≡ enough rest
+    → finished_work s (added s levels) (added_work s levels) b left ≡ hinted_work s.hinting b.program all rest
+glyph_joined_work s levels b all left rest joins pays = rw (pays, joins) refl
 
 -- the work of one record more
 pub one_record_paid : (add : Record → Outline → Result Outline Fault) (work : Record → Option ℕ → Worked)

@@ -1,4 +1,6 @@
+pub mod Beginning
 pub mod Counts
+pub mod DeltaCounts
 pub mod Hintings
 pub mod Falling
 pub mod GlyphPrograms
@@ -9,5 +11,6 @@ pub mod MadeFor
 pub mod Placing
 pub mod Standing
 pub mod Unbounded
+pub mod Varying
 pub mod WorkApart
 mod Refusing

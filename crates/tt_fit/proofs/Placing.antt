@@ -30,11 +30,11 @@ passes v is = grind (arith, nat_tests)
 pub fits : (v : ℤ) → is_coordinate v ≡ true → PassesLimit v → ⊥
 fits v is passes = grind (arith, nat_tests)
 
-either-fails : (a b : Bool) → (a && b) ≡ false → (a ≡ false) ⊎ (b ≡ false)
+pub either-fails : (a b : Bool) → (a && b) ≡ false → (a ≡ false) ⊎ (b ≡ false)
 either-fails true b is = inr is
 either-fails false b is = inl refl
 
-both-hold : (a b : Bool) → (a && b) ≡ true → (a ≡ true) × (b ≡ true)
+pub both-hold : (a b : Bool) → (a && b) ≡ true → (a ≡ true) × (b ≡ true)
 both-hold true b is = (refl, is)
 both-hold false b is = absurd cc
 

@@ -1,27 +1,23 @@
 -- A refused outline has a defect, and an outline has none.
-use Rattle.std.proofs.Common.{◌≡◌, ◌≢◌, ℕ, zero, suc, ◌==◌, false, if◌then◌else◌, List, [], ◌∷◌, length, take, arith, Some, Result, Ok, Err, inl, inr, ℤ, pos, refl, subst, sym}
+use Rattle.std.proofs.Common.{◌≡◌, ℕ, zero, suc, List, [], ◌∷◌, take, Some, Result, Ok, Err, inl, inr, refl, subst, sym}
 use Rattle.std.specs.Prelude.{IsOkAnd, ◌⊎◌}
-use Rattle.std.proofs.lemmas.Bool.Decides.{nat_tests}
 use Rattle.std.specs.List.{slice_get}
 use Rattle.tt_core.specs.Chains.{came-through, was-err}
 use Rattle.tt_core.specs.Faults.{Fault}
 use Rattle.tt_core.specs.Outcomes.{◌>>=◌}
 use Rattle.tt_glyf.specs.declared.raw.Record.{Record}
 use Rattle.tt_glyf.specs.GlyphData.{glyph_data_of}
-use Rattle.tt_glyf.specs.Loca.{glyph_offset}
-use Rattle.tt_glyf.specs.Raw.{Raw, empty, simple, composite}
+use Rattle.tt_glyf.specs.Raw.{Raw}
 use Rattle.tt_glyf.proofs.Defects.{glyph-broke, glyph-whole}
-use Rattle.tt_fit.specs.Defects.{IsStartDefect, IsPlacingDefect, assembled_before, IsRecordsDefect, IsEndsDefect, IsHintingDefect, IsMakingDefect, IsDefectBy, IsBadComponent, IsOutlineDefect}
-use Rattle.tt_fit.specs.Fitting.{Fitter, size_of, start, glyph_grid, simple_start, joined, composite_program, simple_program, made, outline_by, added, glyph_fitter, fitted_outline}
-use Rattle.tt_fit_outline.specs.declared.grid.Grid.{Grid}
-use Rattle.tt_fit_outline.specs.declared.grid.Grid.TheVariants as rounding
-use Rattle.tt_fit_hinting.specs.GlyphZone.{GlyphProgram, on_grid_at, ends_on_grid}
+use Rattle.tt_fit.specs.Defects.{IsPlacingDefect, assembled_before, IsRecordsDefect, IsHintingDefect, IsFinishingDefect, IsMakingDefect, IsDefectBy, IsBadComponent, IsOutlineDefect}
+use Rattle.tt_fit.specs.Fitting.{Begun, Fitter, size_of, glyph_grid, joined, begun_glyph, finished, made, outline_by, added, glyph_fitter, fitted_outline}
+use Rattle.tt_fit_hinting.specs.GlyphZone.{GlyphProgram}
 use Rattle.tt_fit.specs.Laws.{OutlinesAreWhole, OutlineFaultsStand}
 use Rattle.tt_fit_outline.specs.Outline.{Outline}
 use Rattle.tt_fit_hinting.specs.Hinting.{Hinting, hinted}
-use Rattle.tt_fit_outline.specs.Scaling.{phantom_points, scaled_outline}
-use Rattle.tt_fit.proofs.GlyphPrograms.{grid-broke, grid-whole, hinted-broke, hinted-whole}
-use Rattle.tt_fit.proofs.Placing.{blank-broke, blank-whole, scaled-broke, scaled-whole, placing-broke, placing-whole}
+use Rattle.tt_fit.proofs.Beginning.{begun-broke, begun-whole}
+use Rattle.tt_fit.proofs.GlyphPrograms.{hinted-broke, hinted-whole}
+use Rattle.tt_fit.proofs.Placing.{placing-broke, placing-whole}
 
 -- a record is refused exactly for its defects
 abbrev Tells : (Record → Outline → Result Outline Fault) → (Record → Result Outline Fault → Fault → Type 0) → Type 0
@@ -65,85 +61,22 @@ joined-made add (z ∷ rs) o all (suc i) r was there =
     )
 
 records-broke : (add : Record → Outline → Result Outline Fault) (IsOne : Record → Result Outline Fault → Fault → Type 0)
-    → Tells add IsOne → (begun : Result Outline Fault) (o : Outline) (records : List Record) (f : Fault) → begun ≡ Ok o
-    → joined add records o ≡ Err f → IsRecordsDefect add IsOne begun records f
-records-broke add IsOne tells begun o records f begins was =
+    → Tells add IsOne → (o : Outline) (records : List Record) (f : Fault) → joined add records o ≡ Err f
+    → IsRecordsDefect add IsOne o records f
+records-broke add IsOne tells o records f was =
     let there = joined-broke add records o f was in
-    let before : assembled_before add begun records there.0 ≡ Ok there.2 = rw begins there.4 in
+    let before : assembled_before add o records there.0 ≡ Ok there.2 = there.4 in
     let P : Result Outline Fault → Type 0 = λ x. IsOne there.1 x f in
     (there.0, there.1, there.3, subst P (sym before) (tells there.1 there.2 f there.5))
 
 records-whole : (add : Record → Outline → Result Outline Fault) (IsOne : Record → Result Outline Fault → Fault → Type 0)
-    → Spares add IsOne → (begun : Result Outline Fault) (o all : Outline) (records : List Record) (f : Fault)
-    → begun ≡ Ok o → joined add records o ≡ Ok all → IsRecordsDefect add IsOne begun records f → ⊥
-records-whole add IsOne spares begun o all records f begins was bad =
+    → Spares add IsOne → (o all : Outline) (records : List Record) (f : Fault) → joined add records o ≡ Ok all
+    → IsRecordsDefect add IsOne o records f → ⊥
+records-whole add IsOne spares o all records f was bad =
     let came = joined-made add records o all bad.0 bad.1 was bad.2 in
-    let before : assembled_before add begun records bad.0 ≡ Ok came.0 = rw begins came.2 in
+    let before : assembled_before add o records bad.0 ≡ Ok came.0 = came.2 in
     let P : Result Outline Fault → Type 0 = λ x. IsOne bad.1 x f in
     spares bad.1 came.0 came.1 f came.3 (subst P before bad.3)
-
-not-same : (n k : ℕ) → n ≢ k → (n == k) ≡ false
-not-same n k other = grind (arith, nat_tests)
-
-not-zero : (n : ℕ) → (suc n == 0) ≡ false
-not-zero n = not-same (suc n) 0 (λ e. absurd (omega (arith, e)))
-
--- a glyph that can be read
-start-broke : (s : Fitter) (x_min : ℤ) (g : ℕ) (f : Fault) → start s x_min g ≡ Err f → IsStartDefect s x_min g f
-start-broke s x_min g f was =
-    blank-broke (glyph_offset s.tables g) (phantom_points (size_of s) s.metrics x_min g) f was
-
-start-whole : (s : Fitter) (x_min : ℤ) (g : ℕ) (o : Outline) (f : Fault) → start s x_min g ≡ Ok o
-    → IsStartDefect s x_min g f → ⊥
-start-whole s x_min g o f was bad =
-    blank-whole (glyph_offset s.tables g) (phantom_points (size_of s) s.metrics x_min g) o f was bad
-
--- the ends of a simple glyph without a program
-ends-broke : (by : Grid) (at : ℕ) (code : List ℕ) (o : Outline) (f : Fault)
-    → (if length code == 0 then ends_on_grid by at o else Ok o) ≡ Err f → IsEndsDefect by at code o f
-ends-broke rounding.Up at [] o f was = elim (was-err (on_grid_at rounding.Up at o.phantom) _ f was) [
-  | inl here ↦ (refl, refl, grid-broke rounding.Up at o.phantom f here)
-  | inr whole ↦ let done = whole.rest in absurd cc
-]
-ends-broke rounding.Away at [] o f was = absurd cc
-ends-broke rounding.Unrounded at [] o f was = absurd cc
-ends-broke by at (b ∷ bs) o f was =
-    let some = not-zero (length bs) in
-    let same : ◌≡◌ {A = Result Outline Fault} (Ok o) (Err f) = rw some at was in absurd cc
-
-ends-whole : (by : Grid) (at : ℕ) (code : List ℕ) (o begun : Outline) (f : Fault)
-    → (if length code == 0 then ends_on_grid by at o else Ok o) ≡ Ok begun → IsEndsDefect by at code o f → ⊥
-ends-whole by at code o begun f was (up, none, bad) =
-    let settled : ends_on_grid rounding.Up at o ≡ Ok begun = rw (up, none) at was in
-    let grid = came-through (on_grid_at rounding.Up at o.phantom) _ begun settled in
-    grid-whole rounding.Up at o.phantom grid.value f grid.first bad
-
--- a simple glyph without points
-abbrev IsBareDefect : Fitter → ℕ → List ℕ → Fault → Result Outline Fault → Type 0
-IsBareDefect s g code f x = IsOkAnd x (λ o. IsEndsDefect (glyph_grid s) (glyph_offset s.tables g) code o f)
-
-simple-broke : (s : Fitter) (x_min : ℤ) (g : ℕ) (code : List ℕ) (f : Fault) → simple_start s x_min g code ≡ Err f
-    → IsStartDefect s x_min g f ⊎ IsBareDefect s g code f (start s x_min g)
-unfolding simple_start
-simple-broke s x_min g code f was = elim (was-err (start s x_min g) _ f was) [
-  | inl here ↦ inl (start-broke s x_min g f here)
-  | inr begun ↦
-      let bad = ends-broke (glyph_grid s) (glyph_offset s.tables g) code begun.value f begun.rest in
-      inr (subst (IsBareDefect s g code f) (sym begun.first) bad)
-]
-
-simple-whole : (s : Fitter) (x_min : ℤ) (g : ℕ) (code : List ℕ) (begun : Outline) (f : Fault)
-    → simple_start s x_min g code ≡ Ok begun
-    → IsStartDefect s x_min g f ⊎ IsBareDefect s g code f (start s x_min g) → ⊥
-unfolding simple_start
-simple-whole s x_min g code begun f was bad =
-    let first = came-through (start s x_min g) _ begun was in
-    elim bad [
-      | inl of_start ↦ start-whole s x_min g first.value f first.first of_start
-      | inr of_ends ↦
-          ends-whole (glyph_grid s) (glyph_offset s.tables g) code first.value begun f first.rest
-          (subst (IsBareDefect s g code f) first.first of_ends)
-    ]
 
 -- the program of a glyph, over the points that are made for it
 abbrev IsHintingOf : Hinting → GlyphProgram → Fault → Result Outline Fault → Type 0
@@ -157,71 +90,51 @@ hinting-whole : (h : Hinting) (p : GlyphProgram) (x : Result Outline Fault) (o a
     → hinted h p o ≡ Ok all → IsHintingOf h p f x → ⊥
 hinting-whole h p x o all f made was bad = hinted-whole h p o all f was (subst (IsHintingOf h p f) made bad)
 
+-- its components are added, and its program is run
+finishing-broke : (s : Fitter) (add : Record → Outline → Result Outline Fault)
+    (IsOne : Record → Result Outline Fault → Fault → Type 0) → Tells add IsOne → (b : Begun) (f : Fault)
+    → finished s add b ≡ Err f → IsFinishingDefect s add IsOne b f
+finishing-broke s add IsOne tells b f was = elim (was-err (joined add b.records b.outline) _ f was) [
+  | inl here ↦ inl (records-broke add IsOne tells b.outline b.records f here)
+  | inr whole ↦ inr
+      (hinting-broke s.hinting b.program (joined add b.records b.outline) whole.value f whole.first whole.rest)
+]
+
+finishing-whole : (s : Fitter) (add : Record → Outline → Result Outline Fault)
+    (IsOne : Record → Result Outline Fault → Fault → Type 0) → Spares add IsOne → (b : Begun) (o : Outline) (f : Fault)
+    → finished s add b ≡ Ok o → IsFinishingDefect s add IsOne b f → ⊥
+finishing-whole s add IsOne spares b o f was bad =
+    let whole = came-through (joined add b.records b.outline) _ o was in
+    elim bad [
+      | inl one ↦ records-whole add IsOne spares b.outline whole.value b.records f whole.first one
+      | inr program ↦
+          hinting-whole s.hinting b.program (joined add b.records b.outline) whole.value o f whole.first whole.rest
+          program
+    ]
+
+abbrev IsFinishingOf : Fitter → (Record → Outline → Result Outline Fault)
+    → (Record → Result Outline Fault → Fault → Type 0) → Fault → Result Begun Fault → Type 0
+IsFinishingOf s add IsOne f x = IsOkAnd x (λ b. IsFinishingDefect s add IsOne b f)
+
 making-broke : (s : Fitter) (add : Record → Outline → Result Outline Fault)
     (IsOne : Record → Result Outline Fault → Fault → Type 0) → Tells add IsOne → (g : ℕ) (d : Raw) (f : Fault)
     → made s add g d ≡ Err f → IsMakingDefect s add IsOne g d f
-making-broke s add IsOne tells g empty f was = start-broke s (pos 0) g f was
-making-broke s add IsOne tells g (simple d) f was = elim (was-err (simple_start s d.x_min g d.code) _ f was) [
-  | inl here ↦ elim (simple-broke s d.x_min g d.code f here) [
-    | inl of_start ↦ inl of_start
-    | inr of_ends ↦ inr (inl of_ends)
-  ]
-  | inr begun ↦
-      let scale = scaled_outline (size_of s) (glyph_offset s.tables g) d.points d.ends in
-      elim (was-err (scale begun.value) _ f begun.rest) [
-        | inl here ↦ inr
-            (inr (inl (scaled-broke (size_of s) (glyph_offset s.tables g) d.points d.ends begun.value f here)))
-        | inr whole ↦
-            let both = through (simple_start s d.x_min g d.code) scale begun.value whole.value begun.first
-            whole.first in
-            let made = simple_start s d.x_min g d.code >>= scale in
-            inr (inr (inr (hinting-broke s.hinting (simple_program s g d) made whole.value f both whole.rest)))
-      ]
+making-broke s add IsOne tells g d f was = elim (was-err (begun_glyph s g d) (finished s add) f was) [
+  | inl here ↦ inl (begun-broke s g d f here)
+  | inr b ↦
+      let bad = finishing-broke s add IsOne tells b.value f b.rest in
+      inr (subst (IsFinishingOf s add IsOne f) (sym b.first) bad)
 ]
-making-broke s add IsOne tells g (composite d) f was =
-    elim (was-err (start s d.x_min g >>= joined add d.records) _ f was) [
-      | inl here ↦ elim (was-err (start s d.x_min g) (joined add d.records) f here) [
-        | inl first ↦ inl (start-broke s d.x_min g f first)
-        | inr begun ↦ inr
-            (inl (records-broke add IsOne tells (start s d.x_min g) begun.value d.records f begun.first begun.rest))
-      ]
-      | inr whole ↦
-          let all = start s d.x_min g >>= joined add d.records in
-          inr (inr (hinting-broke s.hinting (composite_program s g d) all whole.value f whole.first whole.rest))
-    ]
 
 making-whole : (s : Fitter) (add : Record → Outline → Result Outline Fault)
     (IsOne : Record → Result Outline Fault → Fault → Type 0) → Spares add IsOne → (g : ℕ) (d : Raw) (o : Outline)
     (f : Fault) → made s add g d ≡ Ok o → IsMakingDefect s add IsOne g d f → ⊥
-making-whole s add IsOne spares g empty o f was bad = start-whole s (pos 0) g o f was bad
-making-whole s add IsOne spares g (simple d) o f was bad =
-    let begun = came-through (simple_start s d.x_min g d.code) _ o was in
-    let scale = scaled_outline (size_of s) (glyph_offset s.tables g) d.points d.ends in
-    let by_points = came-through (scale begun.value) _ o begun.rest in
+making-whole s add IsOne spares g d o f was bad =
+    let b = came-through (begun_glyph s g d) (finished s add) o was in
     elim bad [
-      | inl first ↦ simple-whole s d.x_min g d.code begun.value f begun.first (inl first)
-      | inr (inl ends) ↦ simple-whole s d.x_min g d.code begun.value f begun.first (inr ends)
-      | inr (inr (inl point)) ↦
-          scaled-whole (size_of s) (glyph_offset s.tables g) d.points d.ends begun.value by_points.value f
-          by_points.first point
-      | inr (inr (inr program)) ↦
-          let both = through (simple_start s d.x_min g d.code) scale begun.value by_points.value begun.first
-          by_points.first in
-          hinting-whole s.hinting (simple_program s g d) (simple_start s d.x_min g d.code >>= scale) by_points.value
-          o f both by_points.rest program
-    ]
-making-whole s add IsOne spares g (composite d) o f was bad =
-    let by_records = came-through (start s d.x_min g >>= joined add d.records) _ o was in
-    let begun = came-through (start s d.x_min g) (joined add d.records) by_records.value by_records.first in
-    elim bad [
-      | inl first ↦ start-whole s d.x_min g begun.value f begun.first first
-      | inr (inl one) ↦
-          records-whole add IsOne spares (start s d.x_min g) begun.value by_records.value d.records f begun.first
-          begun.rest one
-      | inr (inr program) ↦
-          let all = start s d.x_min g >>= joined add d.records in
-          hinting-whole s.hinting (composite_program s g d) all by_records.value o f by_records.first
-          by_records.rest program
+      | inl first ↦ begun-whole s g d b.value f b.first first
+      | inr later ↦
+          finishing-whole s add IsOne spares b.value o f b.rest (subst (IsFinishingOf s add IsOne f) b.first later)
     ]
 
 -- a glyph, by how its records extend it

@@ -1,5 +1,5 @@
 -- Unbounded work is always enough.
-use Rattle.std.proofs.Common.{◌≡◌, ℕ, zero, suc, Bool, true, false, if◌then◌else◌, List, [], ◌∷◌, Option, None, Result, Ok, Err, ◌⊎◌, inl, inr, ap, refl, ℤ}
+use Rattle.std.proofs.Common.{◌≡◌, ℕ, zero, suc, Bool, true, false, if◌then◌else◌, List, [], ◌∷◌, Option, None, Result, Ok, Err, ◌⊎◌, inl, inr, ap, refl}
 use Rattle.tt_core.specs.Faults.{Fault}
 use Rattle.tt_fit_hinting.proofs.machine.WorkPaid.{unbounded}
 use Rattle.tt_fit_hinting.specs.machine.Machines.{fresh, run_from}
@@ -8,22 +8,21 @@ use Rattle.tt_fit_hinting.specs.machine.Parts.{Parts}
 use Rattle.tt_fit_hinting.specs.machine.Work.{Worked, enough, then_work}
 use Rattle.tt_glyf.specs.declared.raw.Record.{Record}
 use Rattle.tt_glyf.specs.GlyphData.{glyph_data_of}
-use Rattle.tt_glyf.specs.Loca.{glyph_offset}
-use Rattle.tt_glyf.specs.Raw.{Raw, empty, simple, composite}
+use Rattle.tt_glyf.specs.Raw.{Raw}
 use Rattle.tt_metrics.specs.Metrics.{Metrics}
 use Rattle.tt_fit.specs.declared.programs.Fit.{Fit}
 use Rattle.tt_fit.specs.declared.programs.Fit.TheVariants as fit
 use Rattle.tt_fit_hinting.specs.declared.outline_fault.OutlineFault.{OutlineFault}
 use Rattle.tt_fit_hinting.specs.declared.outline_fault.OutlineFault.TheVariants as outline
-use Rattle.tt_fit.specs.Fitting.{Fitter, size_of, start, simple_start, composite_program, simple_program, joined, added, simple_work, composite_work, made_work, work_by, added_work, outline_work}
+use Rattle.tt_fit.specs.Fitting.{Begun, Fitter, begun_glyph, joined, added, finished_work, made_work, work_by, added_work, outline_work}
 use Rattle.tt_fit_hinting.specs.GlyphZone.{GlyphProgram, program_in_glyf, on_grid_at}
 use Rattle.tt_fit_hinting.specs.Hinting.{Hinting, off, ready, is_run, run_of}
 use Rattle.tt_fit_outline.specs.Outline.{Outline}
 use Rattle.tt_fit_hinting.specs.Parts.{parts_with}
+use Rattle.tt_face.specs.Faces.{FaceInstance}
 use Rattle.tt_face.specs.Programs.{ProgramTables}
 use Rattle.tt_fit.specs.Preparation.{Preparation, font_program, control_value_program, with_definitions, programs_work, with_fallback, within_work, begun_at, left_at, work_from, work_at, prepared}
 use Rattle.tt_fit.specs.Rules.{runs_programs}
-use Rattle.tt_fit_outline.specs.Scaling.{scaled_outline}
 use Rattle.tt_fit_hinting.specs.Work.{IsUnbounded, RefusalLeaves, if_ok, code_work, program_work, hinted_work}
 use Rattle.tt_fit.specs.Work.{joined_work}
 
@@ -66,21 +65,20 @@ of-joined add work left free (r ∷ rs) o =
 abbrev HasFree : Fitter → Option ℕ → Type 0
 HasFree s left = (p : GlyphProgram) (o : Outline) → hinted_work s.hinting p o left ≡ enough left
 
+of-finished : (s : Fitter) (left : Option ℕ) → HasFree s left → (add : Record → Outline → Result Outline Fault)
+    (work : Record → Option ℕ → Worked) → ((r : Record) → work r left ≡ enough left) → (b : Begun)
+    → finished_work s add work b left ≡ enough left
+of-finished s left has add work free b =
+    after-both (joined_work add work b.records b.outline left)
+    (if_ok (joined add b.records b.outline) (hinted_work s.hinting b.program)) left
+    (of-joined add work left free b.records b.outline)
+    (after-ok (joined add b.records b.outline) (hinted_work s.hinting b.program) left (has b.program))
+
 of-made : (s : Fitter) (left : Option ℕ) → HasFree s left → (add : Record → Outline → Result Outline Fault)
     (work : Record → Option ℕ → Worked) → ((r : Record) → work r left ≡ enough left) → (g : ℕ) (d : Raw)
     → made_work s add work g d left ≡ enough left
-of-made s left has add work free g empty = refl
-of-made s left has add work free g (simple d) =
-    let program = simple_program s g d in
-    after-ok (simple_start s d.x_min g d.code) (simple_work s g d.points d.ends program) left
-    (λ o. after-ok (scaled_outline (size_of s) (glyph_offset s.tables g) d.points d.ends o)
-    (hinted_work s.hinting program) left (has program))
-of-made s left has add work free g (composite d) =
-    let program = composite_program s g d in
-    after-ok (start s d.x_min g) (composite_work s add work d.records program) left
-    (λ o. after-both (joined_work add work d.records o left)
-    (if_ok (joined add d.records o) (hinted_work s.hinting program)) left (of-joined add work left free d.records o)
-    (after-ok (joined add d.records o) (hinted_work s.hinting program) left (has program)))
+of-made s left has add work free g d =
+    after-ok (begun_glyph s g d) (finished_work s add work) left (of-finished s left has add work free)
 
 of-one : (s : Fitter) (left : Option ℕ) → HasFree s left → (add : Record → Outline → Result Outline Fault)
     (work : Record → Option ℕ → Worked) → ((r : Record) → work r left ≡ enough left) → (g : ℕ)
@@ -119,7 +117,7 @@ of-programs parts programs =
     (λ font. code_work (control_value_program programs.prep) (with_definitions parts font)) None
     (λ font. of-code (control_value_program programs.prep) (with_definitions parts font)))
 
-pub of-left : (m : Metrics) (programs : ProgramTables) (instance : List ℤ) (ppem : ℕ) (how : Fit)
+pub of-left : (m : Metrics) (programs : ProgramTables) (instance : Option FaceInstance) (ppem : ℕ) (how : Fit)
     → work_from m programs instance ppem how None ≡ enough None
 of-left m programs instance ppem how =
     let parts = begun_at m programs instance ppem how in
@@ -135,7 +133,7 @@ told-free : (worked : Worked) (left : Result Hinting Fault) → worked ≡ enoug
 told-free worked left free = rw free (ap Ok (within left))
 
 -- Fallback prepares the same result whether work is counted or not
-pub prepared-falling : (m : Metrics) (programs : ProgramTables) (instance : List ℤ) (ppem : ℕ) (how : Fit)
+pub prepared-falling : (m : Metrics) (programs : ProgramTables) (instance : Option FaceInstance) (ppem : ℕ) (how : Fit)
     → (how ≡ fit.Fallback) ⊎ (how ≡ fit.Best)
     → prepared m programs instance ppem how ≡ Ok
     (within_work (work_at m programs instance ppem how) (left_at m programs instance ppem how))

@@ -61,6 +61,8 @@ pub work-is-apart : WorkIsApart
 work-is-apart s t same = record {
   tables = ap (λ (f : Fitter). f.tables) same;
   metrics = ap (λ (f : Fitter). f.metrics) same;
+  instance = ap (λ (f : Fitter). f.instance) same;
+  control_deltas = ap (λ (f : Fitter). f.control_deltas) same;
   ppem = ap (λ (f : Fitter). f.ppem) same;
   levels = ap (λ (f : Fitter). f.levels) same;
   bound = bound-alike s t same;

@@ -1,50 +1,47 @@
--- OpenType, "The 'glyf' table": the outline of a glyph at a size, with its components made first, in the order of their
--- records.
-use Rattle.std.specs.Prelude.{◌≡◌, ℕ, zero, suc, ◌-◌, ◌≤◌, ◌==◌, Bool, true, if◌then◌else◌, ℤ, pos, neg_ℤ, ◌+ℤ◌, codes, List, [], ◌∷◌, length, Option, Some, None, Result, Ok, Err, refl}
+-- OpenType, "The 'glyf' table" and "gvar": the outline of a glyph at a size, with its components made first, in the order
+-- of their records. A glyph is begun by the font's default or at an instance. All that follows sees no instance.
+use Rattle.std.specs.Prelude.{◌≡◌, ℕ, zero, suc, ◌-◌, ◌≤◌, ◌==◌, Bool, if◌then◌else◌, ℤ, pos, is_some, List, [], ◌∷◌, length, Option, Some, None, Result, Ok, Err, refl}
 use Rattle.tt_core.specs.Faults.{Fault}
 use Rattle.tt_core.specs.declared.fault.Why.TheVariants as why
-use Rattle.tt_core.specs.Faults.{fault_at}
-use Rattle.tt_core.specs.Limits.{level_limit, size_limit}
+use Rattle.tt_core.specs.Limits.{size_limit}
 use Rattle.tt_core.specs.Outcomes.{◌>>=◌}
+use Rattle.tt_deltas.specs.Glyphs.{VariedPoints}
+use Rattle.tt_face.specs.Faces.{FaceInstance}
 use Rattle.tt_fit_hinting.specs.machine.Work.{Worked, enough, then_work}
-use Rattle.tt_glyf.specs.Bytes.{byte_in, word_in, signed_in, slice_in}
-use Rattle.tt_glyf.specs.Composite.{transform_at, argument_at, arguments_at, unscaled, known_glyph, record_at, records_from, program_of, composite_of}
-use Rattle.tt_glyf.specs.Coordinates.{delta_at, within_words, coordinate_at, coordinates_from}
 use Rattle.tt_glyf.specs.declared.raw.RawPoint.{RawPoint}
 use Rattle.tt_glyf.specs.declared.raw.Record.{Record}
-use Rattle.tt_glyf.specs.Flags.{run_at, flags_from}
-use Rattle.tt_glyf.specs.GlyphData.{glyph_data_of, header_of, described}
-use Rattle.tt_glyf.specs.Loca.{Glyf, glyph_offset, glyph_bytes_of}
-use Rattle.tt_glyf.specs.Simple.{end_at, ends_from, points_within, points_of, simple_of}
-use Rattle.tt_metrics.specs.declared.head.LocaFormat.TheVariants.{Short}
-use Rattle.tt_metrics.specs.declared.heights.Heights.TheVariants.{Exact}
+use Rattle.tt_glyf.specs.GlyphData.{glyph_data_of}
+use Rattle.tt_glyf.specs.Loca.{Glyf, glyph_offset}
 use Rattle.tt_glyf.specs.Raw.{Raw, SimpleGlyph, CompositeGlyph, empty, simple, composite}
 use Rattle.tt_metrics.specs.Metrics.{Metrics, units_per_em_of, loca_format_of, glyphs_of}
 use Rattle.tt_fit.specs.declared.dropouts.DropoutsBy.{DropoutsBy}
 use Rattle.tt_fit.specs.declared.dropouts.DropoutsBy.TheVariants as by
-use Rattle.tt_fit_outline.specs.Component.{shift_of}
-use Rattle.tt_fit_outline.specs.Joining.{placed, appended, within_point_limit}
+use Rattle.tt_fit_outline.specs.Joining.{placed}
 use Rattle.tt_fit.specs.Fallback.{Fallback, never, where_refused, everywhere, unfitted_by, hinting_for}
 use Rattle.tt_fit_outline.specs.Outline.{PhantomPoints, Outline}
 use Rattle.tt_fit_outline.specs.declared.grid.Grid.{Grid}
 use Rattle.tt_fit_outline.specs.declared.grid.GridRule.{GridRule}
-use Rattle.tt_fit_outline.specs.declared.grid.GridRule.TheVariants as grid_rule
 use Rattle.tt_fit_hinting.specs.GlyphZone.{GlyphProgram, ends_on_grid}
-use Rattle.tt_fit_hinting.specs.Hinting.{Hinting, off, IsHinting, is_on, grid_by, hinted}
-use Rattle.tt_fit_outline.specs.Scaling.{glyf_fault, phantom_points, phantom_units, blank, scaled_outline, settled}
+use Rattle.tt_fit_hinting.specs.Hinting.{Hinting, IsHinting, is_on, grid_by, hinted}
+use Rattle.tt_fit_outline.specs.Scaling.{glyf_fault, phantom_points, phantom_units, scaled_phantom, blank, outline_in_place, scaled_outline}
 use Rattle.tt_fit_outline.specs.Size.{FontSize, size_by}
 use Rattle.tt_fit_outline.specs.Units.{Units, units_by}
 use Rattle.tt_fit_outline.specs.declared.rules.Scaling.{Scaling}
-use Rattle.tt_fit_outline.specs.declared.rules.Scaling.TheVariants as scaling
+use Rattle.tt_fit_variation.specs.Advance.{deltas_of}
+use Rattle.tt_fit_variation.specs.Ends.{EndDeltas, end_deltas, ends_in_units, fine_ends}
+use Rattle.tt_fit_variation.specs.Moved.{InstancePoint, instance_places, instance_points, instance_units}
+use Rattle.tt_fit_variation.specs.Records.{moved_records}
 use Rattle.tt_fit_hinting.specs.Work.{if_ok, hinted_work}
 use Rattle.tt_fit.specs.Work.{joined_work, left_in}
 
--- The inputs of outlines: a font's glyph data and metrics, the pixels per em, the scaling, and when distances are
--- rounded to whole pixels. Then the state after its programs, which glyphs are unfitted, and the depth limit of
--- components. Then the job's remaining work (None if unbounded), and the source of the dropout rules.
+-- The inputs of outlines: a font's glyph data and metrics, its instance if that is not the default, the pixels per em, the
+-- scaling, and when distances are rounded to whole pixels. Then the state after its programs, which glyphs are unfitted,
+-- and the depth limit of components. Then the job's remaining work (None if unbounded), the work of the deltas of control
+-- values, and the source of the dropout rules.
 pub record Fitter : Type 0 where
   pub tables : Glyf
   pub metrics : Metrics
+  pub instance : Option FaceInstance
   pub ppem : ℕ
   pub scaling : Scaling
   pub grid : GridRule
@@ -52,6 +49,7 @@ pub record Fitter : Type 0 where
   pub fallback : Fallback
   pub levels : ℕ
   pub work : Option ℕ
+  pub control_deltas : ℕ
   pub dropouts : DropoutsBy
 
 -- the glyph data belongs to the metrics, the size is supported, and the hinting is one that programs can give
@@ -62,16 +60,17 @@ pub record IsFitter (s : Fitter) : Type 0 where
   pub high : s.ppem ≤ size_limit
   pub hinting : IsHinting s.hinting
 
--- this fitter with other hinting, no glyph unfitted, unbounded work and no dropouts
+-- this fitter with other hinting, no glyph unfitted, work that is neither bounded nor counted, and no dropouts
 abbrev pub with_hinting : Fitter → Hinting → Fitter
-with_hinting s hinting = record s { hinting = hinting; fallback = never; work = None; dropouts = by.Nobody }
+with_hinting s hinting =
+    record s { hinting = hinting; fallback = never; work = None; control_deltas = 0; dropouts = by.Nobody }
 
 abbrev pub size_of : Fitter → FontSize
 size_of s = size_by s.scaling s.ppem (units_per_em_of s.metrics)
 
--- a glyph without points, whose outline in font units begins at this x
-abbrev pub start : Fitter → ℤ → ℕ → Result Outline Fault
-start s x_min g = blank (glyph_offset s.tables g) (phantom_points (size_of s) s.metrics x_min g)
+-- a glyph without points, with its phantom points
+abbrev pub start : Fitter → PhantomPoints → ℕ → Result Outline Fault
+start s phantom g = blank (glyph_offset s.tables g) phantom
 
 -- each record in order, by how a record extends the outline so far
 abbrev pub joined : (Record → Outline → Result Outline Fault) → List Record → Outline → Result Outline Fault
@@ -83,33 +82,118 @@ abbrev pub glyph_grid : Fitter → Grid
 glyph_grid s = grid_by s.grid s.hinting
 
 -- a simple glyph without points, by its program; without a program its phantom points may be on the grid
-unfoldable pub simple_start : Fitter → ℤ → ℕ → List ℕ → Result Outline Fault
-simple_start s x_min g code = start s x_min g >>= λ o.
+unfoldable pub simple_start : Fitter → PhantomPoints → ℕ → List ℕ → Result Outline Fault
+simple_start s phantom g code = start s phantom g >>= λ o.
     if length code == 0 then ends_on_grid (glyph_grid s) (glyph_offset s.tables g) o else Ok o
 
 abbrev pub glyph_program : Fitter → ℕ → List ℕ → ℕ → Option Units → GlyphProgram
 glyph_program s g code code_at units =
     record { code = code; code_at = code_at; glyph_at = glyph_offset s.tables g; grid = glyph_grid s; units = units }
 
--- the program of a simple glyph, whose originals may be measured in font units, and the program of a composite one
-abbrev pub simple_program : Fitter → ℕ → SimpleGlyph → GlyphProgram
-simple_program s g d =
-    glyph_program s g d.code d.code_at (units_by s.scaling d.points (phantom_units s.metrics d.x_min g))
+-- A glyph that is begun: its own points in their places, the components that are added to them, and its program
+pub record Begun : Type 0 where
+  pub outline : Outline
+  pub records : List Record
+  pub program : GlyphProgram
 
-abbrev pub composite_program : Fitter → ℕ → CompositeGlyph → GlyphProgram
-composite_program s g d = glyph_program s g d.code d.code_at None
+-- a glyph without points, components and a program
+abbrev pub empty_begun : Fitter → ℕ → Outline → Begun
+empty_begun s g o = record { outline = o; records = []; program = glyph_program s g [] 0 None }
 
--- the outline of a simple glyph, begun without points: its points scaled, and its program over them
-abbrev pub simple_outline : Fitter → ℕ → List RawPoint → List ℕ → GlyphProgram → Outline → Result Outline Fault
-simple_outline s g points ends program o = scaled_outline (size_of s) (glyph_offset s.tables g) points ends o >>=
-    hinted s.hinting program
+-- a simple glyph, whose program may measure originals in these font units
+abbrev pub simple_begun : Fitter → ℕ → SimpleGlyph → List RawPoint → PhantomPoints → Outline → Begun
+simple_begun s g d points phantom o = record {
+  outline = o;
+  records = [];
+  program = glyph_program s g d.code d.code_at (units_by s.scaling points phantom);
+}
 
--- the outline of a glyph, by how a record extends the outline so far
+-- a composite glyph with these components
+abbrev pub composite_begun : Fitter → ℕ → List ℕ → ℕ → List Record → Outline → Begun
+composite_begun s g code code_at records o =
+    record { outline = o; records = records; program = glyph_program s g code code_at None }
+
+-- the phantom points by the font's default, in font units and in 26.6 pixels
+abbrev pub default_units : Fitter → ℤ → ℕ → PhantomPoints
+default_units s x_min g = phantom_units s.metrics x_min g
+
+abbrev pub default_phantom : Fitter → ℤ → ℕ → PhantomPoints
+default_phantom s x_min g = phantom_points (size_of s) s.metrics x_min g
+
+-- a glyph by the font's default
+abbrev pub begun_by_default : Fitter → ℕ → Raw → Result Begun Fault
+begun_by_default s g empty = start s (default_phantom s (pos 0) g) g >>= λ o. Ok (empty_begun s g o)
+begun_by_default s g (simple d) = simple_start s (default_phantom s d.x_min g) g d.code
+    >>= λ o. scaled_outline (size_of s) (glyph_offset s.tables g) d.points d.ends o
+    >>= λ all. Ok (simple_begun s g d d.points (default_units s d.x_min g) all)
+begun_by_default s g (composite d) =
+    start s (default_phantom s d.x_min g) g >>= λ o. Ok (composite_begun s g d.code d.code_at d.records o)
+
+-- at an instance: the deltas of the phantom points, which follow so many points or components
+abbrev pub ends_of : Fitter → ℕ → VariedPoints → EndDeltas
+ends_of s n v = end_deltas (is_some s.metrics.advances) n v
+
+-- the phantom points in font units
+abbrev pub units_at : Fitter → ℤ → ℕ → ℕ → VariedPoints → Result PhantomPoints Fault
+units_at s x_min g n v = ends_in_units (glyph_offset s.tables g) (default_units s x_min g) (ends_of s n v)
+
+-- those of a simple glyph in 26.6 pixels
+abbrev pub fine_phantom : Fitter → ℕ → SimpleGlyph → VariedPoints → PhantomPoints
+fine_phantom s g d v = fine_ends (size_of s).scale (default_units s d.x_min g) (ends_of s (length d.points) v)
+
+-- a composite or an empty glyph without points: its phantom points are scaled from whole font units
+abbrev pub whole_start : Fitter → ℤ → ℕ → ℕ → VariedPoints → Result Outline Fault
+whole_start s x_min g n v = units_at s x_min g n v >>= λ units. start s (scaled_phantom (size_of s) units) g
+
+-- a simple glyph without points, whose phantom points are scaled from parts of a unit: these in font units besides
+pub record FineStart : Type 0 where
+  pub units : PhantomPoints
+  pub outline : Outline
+
+abbrev pub fine_start : Fitter → ℕ → SimpleGlyph → VariedPoints → Result FineStart Fault
+fine_start s g d v = units_at s d.x_min g (length d.points) v >>= λ units.
+    simple_start s (fine_phantom s g d v) g d.code >>= λ o. Ok (record { units = units; outline = o })
+
+-- a simple glyph with its points in their places
+abbrev pub simple_moved : Fitter → ℕ → SimpleGlyph → FineStart → List InstancePoint → Begun
+simple_moved s g d b ps =
+    simple_begun s g d (instance_units ps) b.units (outline_in_place (instance_places ps) d.ends b.outline)
+
+abbrev pub empty_varied : Fitter → ℕ → VariedPoints → Result Begun Fault
+empty_varied s g v = whole_start s (pos 0) g 0 v >>= λ o. Ok (empty_begun s g o)
+
+abbrev pub simple_varied : Fitter → ℕ → SimpleGlyph → VariedPoints → Result Begun Fault
+simple_varied s g d v = fine_start s g d v >>= λ b.
+    instance_points (size_of s) (glyph_offset s.tables g) d.points v.xs v.ys >>= λ ps. Ok (simple_moved s g d b ps)
+
+abbrev pub composite_varied : Fitter → ℕ → CompositeGlyph → VariedPoints → Result Begun Fault
+composite_varied s g d v = whole_start s d.x_min g (length d.records) v >>= λ o.
+    moved_records d.records v.xs v.ys >>= λ records.
+    Ok (composite_begun s g d.code d.code_at records o)
+
+abbrev pub begun_varied : Fitter → ℕ → Raw → VariedPoints → Result Begun Fault
+begun_varied s g empty v = empty_varied s g v
+begun_varied s g (simple d) v = simple_varied s g d v
+begun_varied s g (composite d) v = composite_varied s g d v
+
+-- a fault of the glyph's deltas comes first
+abbrev pub begun_at_instance : FaceInstance → Fitter → ℕ → Raw → Result Begun Fault
+begun_at_instance i s g raw = deltas_of i.gvar i.coordinates g raw >>= begun_varied s g raw
+
+abbrev pub begun_by : Option FaceInstance → Fitter → ℕ → Raw → Result Begun Fault
+begun_by None s g raw = begun_by_default s g raw
+begun_by (Some i) s g raw = begun_at_instance i s g raw
+
+unfoldable pub begun_glyph : Fitter → ℕ → Raw → Result Begun Fault
+begun_glyph s g raw = begun_by s.instance s g raw
+
+-- the outline of a glyph that is begun, by how a record extends the outline so far: its components are added, and its
+-- program is run
+abbrev pub finished : Fitter → (Record → Outline → Result Outline Fault) → Begun → Result Outline Fault
+finished s add b = joined add b.records b.outline >>= hinted s.hinting b.program
+
 abbrev pub made : Fitter → (Record → Outline → Result Outline Fault) → ℕ → Raw → Result Outline Fault
-made s add g empty = start s (pos 0) g
-made s add g (simple d) = simple_start s d.x_min g d.code >>= simple_outline s g d.points d.ends (simple_program s g d)
-made s add g (composite d) = start s d.x_min g >>= joined add d.records >>= hinted s.hinting
-    (composite_program s g d)
+made s add g raw = begun_glyph s g raw >>= finished s add
 
 abbrev pub outline_by : Fitter → (Record → Outline → Result Outline Fault) → ℕ → Result Outline Fault
 outline_by s add g = glyph_data_of s.tables g >>= made s add g
@@ -123,24 +207,17 @@ added s (suc levels) r o = outline_by s (added s levels) r.glyph >>= λ componen
 abbrev pub outline_at : Fitter → ℕ → ℕ → Result Outline Fault
 outline_at s levels g = outline_by s (added s levels) g
 
--- the work of a simple glyph's program, and of a composite glyph's, begun without points
-abbrev pub simple_work : Fitter → ℕ → List RawPoint → List ℕ → GlyphProgram → Outline → Option ℕ → Worked
-simple_work s g points ends program o = if_ok (scaled_outline (size_of s) (glyph_offset s.tables g) points ends o)
-    (hinted_work s.hinting program)
-
-abbrev pub composite_work : Fitter → (Record → Outline → Result Outline Fault) → (Record → Option ℕ → Worked)
-    → List Record → GlyphProgram → Outline → Option ℕ → Worked
-composite_work s add work records program o left =
-    then_work (joined_work add work records o left) (if_ok (joined add records o) (hinted_work s.hinting program))
+-- the work of a glyph that is begun: that of its components, and that of its program
+abbrev pub finished_work : Fitter → (Record → Outline → Result Outline Fault) → (Record → Option ℕ → Worked) → Begun
+    → Option ℕ → Worked
+finished_work s add work b left =
+    then_work (joined_work add work b.records b.outline left)
+    (if_ok (joined add b.records b.outline) (hinted_work s.hinting b.program))
 
 -- the work of a glyph's programs, by how a record extends the outline so far, and by the record's work
 abbrev pub made_work : Fitter → (Record → Outline → Result Outline Fault) → (Record → Option ℕ → Worked) → ℕ → Raw
     → Option ℕ → Worked
-made_work s add work g empty = enough
-made_work s add work g (simple d) = if_ok (simple_start s d.x_min g d.code)
-    (simple_work s g d.points d.ends (simple_program s g d))
-made_work s add work g (composite d) = if_ok (start s d.x_min g)
-    (composite_work s add work d.records (composite_program s g d))
+made_work s add work g raw = if_ok (begun_glyph s g raw) (finished_work s add work)
 
 abbrev pub work_by : Fitter → (Record → Outline → Result Outline Fault) → (Record → Option ℕ → Worked) → ℕ → Option ℕ
     → Worked
@@ -216,81 +293,3 @@ more_than_remains = refl
 not_bounded : work_less 40 None ≡ None
 not_bounded = refl
 
--- worked values: three glyphs at 16 pixels, 256 units in an em, each 256 wide; the bearing of glyph 1 alone is 64
-abbrev its_metrics : Metrics
-its_metrics = record {
-  head = record { units_per_em = 256; loca_format = Short };
-  maxp = record { glyphs = 3; twilight = 0; storage = 0 };
-  hhea = record { ascent = pos 256; descent = neg_ℤ (pos 64); line_gap = pos 0; long_metrics = 1 };
-  hmtx = 1 ∷ 0 ∷ 0 ∷ 0 ∷ 0 ∷ 64 ∷ 0 ∷ 0 ∷ [];
-  heights = Exact;
-  kerning = None;
-  advances = None;
-}
-
--- glyph 0 is empty, glyph 1 a square of four points, (64,0), (64,128), (192,128), (192,0), and glyph 2 is after it
-abbrev its_fitter : List ℕ → Fitter
-its_fitter third = record {
-  tables = record {
-    loca = 0 ∷ 0 ∷ 0 ∷ 0 ∷ 0 ∷ 11 ∷ 0 ∷ 22 ∷ [];
-    glyf = 0 ∷ 1 ∷ 0 ∷ 64 ∷ 0 ∷ 0 ∷ 0 ∷ 192 ∷ 0 ∷ 128 ∷ 0 ∷ 3 ∷ 0 ∷ 0 ∷ 0x33 ∷ 0x35 ∷ 0x33 ∷ 0x15 ∷ 0x40 ∷ 0x80 ∷ 0x80 ∷
-        0x80 ∷ third;
-    format = Short;
-    glyphs = 3;
-  };
-  metrics = its_metrics;
-  ppem = 16;
-  scaling = scaling.Exact;
-  grid = grid_rule.Always;
-  hinting = off;
-  fallback = never;
-  levels = level_limit;
-  work = None;
-  dropouts = by.Nobody;
-}
-
-abbrev its_phantom_points : ℤ → PhantomPoints
-its_phantom_points left =
-    record { left = (left, pos 0); right = (left +ℤ pos 1024, pos 0); ascent = (pos 0, pos 1024); descent = (pos 0, neg_ℤ (pos 256)) }
-
-empty_is_blank : fitted_outline (its_fitter []) 0 ≡ Ok
-    (record { points = []; ends = []; phantom = its_phantom_points (pos 0); scan = None })
-unfolding fitted_outline unfitted_fault glyph_data_of blank
-empty_is_blank = refl
-
-square_is_scaled : fitted_outline (its_fitter []) 1 ≡ Ok (record {
-  points = (pos 256, pos 0, true) ∷ (pos 256, pos 512, true) ∷ (pos 768, pos 512, true) ∷ (pos 768, pos 0, true) ∷ [];
-  ends = 4 ∷ [];
-  phantom = its_phantom_points (pos 0);
-  scan = None;
-})
-unfolding fitted_outline unfitted_fault glyph_data_of glyph_bytes_of header_of described simple_of ends_from end_at points_within
-    points_of flags_from run_at coordinates_from coordinate_at within_words delta_at byte_in word_in signed_in slice_in
-    blank simple_start scaled_outline settled
-square_is_scaled = refl
-
--- two components of glyph 1, the second moved by 64 to the right; the second gives its metrics
-abbrev two_squares : List ℕ
-two_squares = 255 ∷ 255 ∷ 0 ∷ 64 ∷ 0 ∷ 0 ∷ 1 ∷ 0 ∷ 0 ∷ 128 ∷ 0 ∷ 0x22 ∷ 0 ∷ 1 ∷ 0 ∷ 0 ∷ 2 ∷ 2 ∷ 0 ∷ 1 ∷ 64 ∷ 0 ∷ []
-
-squares_are_joined : fitted_outline (its_fitter two_squares) 2 ≡ Ok (record {
-  points = (pos 256, pos 0, true) ∷ (pos 256, pos 512, true) ∷ (pos 768, pos 512, true) ∷ (pos 768, pos 0, true)
-      ∷ (pos 512, pos 0, true) ∷ (pos 512, pos 512, true) ∷ (pos 1024, pos 512, true) ∷ (pos 1024, pos 0, true) ∷ [];
-  ends = 4 ∷ 8 ∷ [];
-  phantom = its_phantom_points (pos 0);
-  scan = None;
-})
-unfolding fitted_outline unfitted_fault added placed appended shift_of within_point_limit glyph_data_of glyph_bytes_of header_of described
-    composite_of records_from record_at known_glyph arguments_at argument_at transform_at unscaled program_of simple_of
-    ends_from end_at points_within points_of flags_from run_at coordinates_from coordinate_at within_words delta_at
-    byte_in word_in signed_in slice_in blank simple_start scaled_outline settled
-squares_are_joined = refl
-
--- one component, which is the glyph itself
-abbrev itself : List ℕ
-itself = 255 ∷ 255 ∷ 0 ∷ 64 ∷ 0 ∷ 0 ∷ 1 ∷ 0 ∷ 0 ∷ 128 ∷ 0 ∷ 2 ∷ 0 ∷ 2 ∷ 0 ∷ 0 ∷ []
-
-itself_is_too_deep : fitted_outline (its_fitter itself) 2 ≡ Err (fault_at (codes "glyf") 32 why.ComponentDepth)
-unfolding fitted_outline unfitted_fault added glyph_data_of glyph_bytes_of header_of described composite_of records_from record_at
-    known_glyph arguments_at argument_at transform_at unscaled program_of byte_in word_in signed_in slice_in blank
-itself_is_too_deep = refl

@@ -83,10 +83,12 @@ ChargesTakeWorkAlone = (s : Fitter) (cost : ℕ) → without_work (charged_fitte
 abbrev pub FittersRenew : Type 0
 FittersRenew = (s t : Fitter) → without_work t ≡ without_work s → with_work t s.work ≡ s
 
--- two fitters have the same glyph data, size and levels, fill dropouts by the same rules, and bound work alike
+-- two fitters have the same glyph data, instance, size and levels, fill dropouts by the same rules, and bound work alike
 pub record AreAlike (s t : Fitter) : Type 0 where
   pub tables : t.tables ≡ s.tables
   pub metrics : t.metrics ≡ s.metrics
+  pub instance : t.instance ≡ s.instance
+  pub control_deltas : t.control_deltas ≡ s.control_deltas
   pub ppem : t.ppem ≡ s.ppem
   pub levels : t.levels ≡ s.levels
   pub bound : all_used t.work ≡ all_used s.work

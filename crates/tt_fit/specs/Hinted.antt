@@ -1,6 +1,6 @@
 -- Laws of hinting. Where it is off, the outline is that of a font without programs and without rounded offsets. Where it
 -- is on, the ends of a simple glyph's advance are whole pixels.
-use Rattle.std.specs.Prelude.{◌≡◌, ◌≢◌, ℕ, zero, suc, ◌-◌, ◌^◌, true, false, ℤ, pos, neg_ℤ, ◌-ℤ◌, ◌*ℤ◌, bit_and, [], map, Some, None, Result, Ok, Err, refl, List}
+use Rattle.std.specs.Prelude.{◌≡◌, ◌≢◌, ℕ, zero, suc, ◌-◌, ◌^◌, true, false, ℤ, pos, neg_ℤ, ◌-ℤ◌, ◌*ℤ◌, bit_and, [], map, Option, Some, None, Result, Ok, Err, refl}
 use Rattle.tt_core.specs.Faults.{Fault}
 use Rattle.tt_core.specs.declared.fault.Why.TheVariants as why
 use Rattle.tt_core.specs.Outcomes.{◌>>=◌}
@@ -10,6 +10,7 @@ use Rattle.tt_glyf.specs.Loca.{Glyf}
 use Rattle.tt_glyf.specs.Raw.{Raw, SimpleGlyph, empty, simple, composite}
 use Rattle.tt_glyf.specs.declared.raw.Record.{Record}
 use Rattle.tt_metrics.specs.Metrics.{Metrics}
+use Rattle.tt_face.specs.Faces.{FaceInstance}
 use Rattle.tt_face.specs.Programs.{ProgramTables}
 use Rattle.tt_fit.specs.declared.programs.Fit.{Fit}
 use Rattle.tt_fit.specs.declared.programs.Fit.TheVariants as fit
@@ -28,30 +29,30 @@ use Rattle.tt_fit_outline.specs.Steps.{at_least_zero, step_of}
 
 -- with Best, halves go up where hinting is on; with every other fit they go away from zero, whatever the hinting
 abbrev pub BestRoundsWhereHinted : Type 0
-BestRoundsWhereHinted = (m : Metrics) (tables : Glyf) (programs : ProgramTables) (instance : List ℤ) (ppem : ℕ)
+BestRoundsWhereHinted = (m : Metrics) (tables : Glyf) (programs : ProgramTables) (instance : Option FaceInstance) (ppem : ℕ)
     (s : Fitter)
     → fitter_of m tables programs instance ppem fit.Best ≡ Ok s → s.grid ≡ grid_rule.WhereHinted
 
 abbrev pub OthersRoundAlways : Type 0
-OthersRoundAlways = (m : Metrics) (tables : Glyf) (programs : ProgramTables) (instance : List ℤ) (ppem : ℕ)
+OthersRoundAlways = (m : Metrics) (tables : Glyf) (programs : ProgramTables) (instance : Option FaceInstance) (ppem : ℕ)
     (how : Fit) (s : Fitter)
     → how ≢ fit.Best → fitter_of m tables programs instance ppem how ≡ Ok s → glyph_grid s ≡ rounding.Away
 
 -- with Best, hinting is off for every glyph of a font whose two programs are both empty
 abbrev pub EmptyIsOff : Type 0
-EmptyIsOff = (m : Metrics) (tables : Glyf) (programs : ProgramTables) (instance : List ℤ) (ppem : ℕ) (s : Fitter)
+EmptyIsOff = (m : Metrics) (tables : Glyf) (programs : ProgramTables) (instance : Option FaceInstance) (ppem : ℕ) (s : Fitter)
     (g : ℕ)
     → AreEmpty programs → fitter_of m tables programs instance ppem fit.Best ≡ Ok s → is_hinted s g ≡ false
 
 -- and no glyph of such a font is unfitted
 abbrev pub LeftoversFit : Type 0
-LeftoversFit = (m : Metrics) (tables : Glyf) (programs : ProgramTables) (instance : List ℤ) (ppem : ℕ) (s : Fitter)
+LeftoversFit = (m : Metrics) (tables : Glyf) (programs : ProgramTables) (instance : Option FaceInstance) (ppem : ℕ) (s : Fitter)
     (g : ℕ)
     → AreEmpty programs → fitter_of m tables programs instance ppem fit.Best ≡ Ok s → unfitted_fault s g ≡ None
 
 -- hinting is off where the control value program switched glyph programs off
 abbrev pub SwitchedIsOff : Type 0
-SwitchedIsOff = (m : Metrics) (tables : Glyf) (programs : ProgramTables) (instance : List ℤ) (ppem : ℕ) (s : Fitter)
+SwitchedIsOff = (m : Metrics) (tables : Glyf) (programs : ProgramTables) (instance : Option FaceInstance) (ppem : ℕ) (s : Fitter)
     (g : ℕ)
     → SwitchedOff m programs instance ppem → fitter_of m tables programs instance ppem fit.Best ≡ Ok s
     → is_hinted s g ≡ false

@@ -2,15 +2,18 @@
 -- value program, before the first glyph. Without programs they are ignored. The control value program sees only the
 -- definitions of the font program. This, and which of its own results the glyphs see, is this project's choice
 -- (profile).
-use Rattle.std.specs.Prelude.{ℕ, ℤ, if◌then◌else◌, List, codes, Option, Some, None, Result, Ok, Err}
+use Rattle.std.specs.Prelude.{ℕ, if◌then◌else◌, List, codes, Option, Some, None, Result, Ok, Err}
 use Rattle.tt_core.specs.Faults.{Fault}
 use Rattle.tt_core.specs.Outcomes.{◌>>=◌}
 use Rattle.tt_fit_hinting.specs.step.MachineState.{Code}
 use Rattle.tt_fit_hinting.specs.machine.Parts.{Parts}
 use Rattle.tt_fit_hinting.specs.machine.Work.{Worked, enough, spent, then_work}
+use Rattle.tt_face.specs.Faces.{FaceInstance}
 use Rattle.tt_face.specs.Programs.{ProgramTables}
 use Rattle.tt_glyf.specs.Loca.{Glyf}
-use Rattle.tt_metrics.specs.Metrics.{Metrics}
+use Rattle.tt_metrics.specs.Metrics.{Metrics, units_per_em_of}
+use Rattle.tt_fit.specs.ControlValues.{places_of, varied_parts}
+use Rattle.tt_fit.specs.DeltaCounting.{control_deltas_of}
 use Rattle.tt_fit.specs.declared.programs.Fit.{Fit}
 use Rattle.tt_fit.specs.declared.programs.Fit.TheVariants as fit
 use Rattle.tt_fit.specs.declared.dropouts.DropoutsBy.TheVariants as by
@@ -18,6 +21,7 @@ use Rattle.tt_fit.specs.Fallback.{Fallback, never, where_refused, everywhere}
 use Rattle.tt_fit.specs.Fitting.{Fitter}
 use Rattle.tt_fit_hinting.specs.Hinting.{Hinting, off, ready, run_of}
 use Rattle.tt_fit_hinting.specs.Parts.{begun_parts, left_to_glyphs}
+use Rattle.tt_fit_outline.specs.Size.{size_by}
 use Rattle.tt_fit.specs.Rules.{rules_of, grid_of, runs_programs, levels_of, work_of, cvt_read, instance_read, dropouts_by}
 use Rattle.tt_fit_hinting.specs.Work.{if_ok, code_work}
 
@@ -73,33 +77,39 @@ prepared_by fit.Full worked by_programs = by_programs >>= λ hinting. Ok (withou
 prepared_by fit.Fallback worked by_programs = Ok (with_fallback by_programs)
 prepared_by fit.Best worked by_programs = Ok (within_work worked by_programs)
 
+-- the parts by the font's default, at an instance's places that programs can read
+abbrev pub default_parts : Metrics → List ℕ → Option FaceInstance → ℕ → Fit → Parts
+default_parts m cvt instance ppem fit = begun_parts m cvt ppem (rules_of fit) (instance_read fit (places_of instance))
+
 -- the parts at the start of the two programs at an instance and a size, by the rules of a fit
-abbrev pub begun_at : Metrics → ProgramTables → List ℤ → ℕ → Fit → Parts
+abbrev pub begun_at : Metrics → ProgramTables → Option FaceInstance → ℕ → Fit → Parts
 begun_at m programs instance ppem fit =
-    begun_parts m (cvt_read fit programs.cvt) ppem (rules_of fit) (instance_read fit instance)
+    varied_parts instance fit (size_by (rules_of fit).scaling ppem (units_per_em_of m)).control_values
+    (cvt_read fit programs.cvt) (default_parts m (cvt_read fit programs.cvt) instance ppem fit)
 
 -- the state after the two programs, where they are run
-abbrev pub left_at : Metrics → ProgramTables → List ℤ → ℕ → Fit → Result Hinting Fault
+abbrev pub left_at : Metrics → ProgramTables → Option FaceInstance → ℕ → Fit → Result Hinting Fault
 left_at m programs instance ppem fit = if runs_programs fit programs.fpgm programs.prep then
     left_by_programs (begun_at m programs instance ppem fit) programs else Ok off
 
 -- the work of the two programs from this work on, where they are run
-abbrev pub work_from : Metrics → ProgramTables → List ℤ → ℕ → Fit → Option ℕ → Worked
+abbrev pub work_from : Metrics → ProgramTables → Option FaceInstance → ℕ → Fit → Option ℕ → Worked
 work_from m programs instance ppem fit left = if runs_programs fit programs.fpgm programs.prep then
     programs_work (begun_at m programs instance ppem fit) programs left else enough left
 
-abbrev pub work_at : Metrics → ProgramTables → List ℤ → ℕ → Fit → Worked
+abbrev pub work_at : Metrics → ProgramTables → Option FaceInstance → ℕ → Fit → Worked
 work_at m programs instance ppem fit = work_from m programs instance ppem fit (work_of fit)
 
-unfoldable pub prepared : Metrics → ProgramTables → List ℤ → ℕ → Fit → Result Preparation Fault
+unfoldable pub prepared : Metrics → ProgramTables → Option FaceInstance → ℕ → Fit → Result Preparation Fault
 prepared m programs instance ppem fit =
     prepared_by fit (work_at m programs instance ppem fit) (left_at m programs instance ppem fit)
 
--- the fitter, by the state after the two programs, where no dropouts are filled
-abbrev pub fitter_with : Metrics → Glyf → ℕ → Fit → Hinting → Fallback → Option ℕ → Fitter
-fitter_with m tables ppem fit hinting fallback work = record {
+-- the fitter, by the state after the two programs, where no dropouts are filled, and control values ask for no deltas
+abbrev pub fitter_with : Metrics → Glyf → Option FaceInstance → ℕ → Fit → Hinting → Fallback → Option ℕ → Fitter
+fitter_with m tables instance ppem fit hinting fallback work = record {
   tables = tables;
   metrics = m;
+  instance = instance;
   ppem = ppem;
   scaling = (rules_of fit).scaling;
   grid = grid_of fit;
@@ -107,11 +117,15 @@ fitter_with m tables ppem fit hinting fallback work = record {
   fallback = fallback;
   levels = levels_of fit;
   work = work;
+  control_deltas = 0;
   dropouts = by.Nobody;
 }
 
--- the fitter of a font at an instance and a size; the default instance has no place on an axis
-unfoldable pub fitter_of : Metrics → Glyf → ProgramTables → List ℤ → ℕ → Fit → Result Fitter Fault
+-- the fitter of a font at an instance and a size
+unfoldable pub fitter_of : Metrics → Glyf → ProgramTables → Option FaceInstance → ℕ → Fit → Result Fitter Fault
 fitter_of m tables programs instance ppem fit = do
   p ← prepared m programs instance ppem fit
-  Ok (record (fitter_with m tables ppem fit p.hinting p.fallback p.work) { dropouts = dropouts_by fit })
+  Ok (record (fitter_with m tables instance ppem fit p.hinting p.fallback p.work) {
+    control_deltas = control_deltas_of instance fit programs.cvt;
+    dropouts = dropouts_by fit;
+  })

@@ -22,7 +22,7 @@ use Rattle.tt_fit.specs.declared.dropouts.DropoutsBy.TheVariants as by
 use Rattle.tt_fit_outline.specs.Component.{shift_of}
 use Rattle.tt_fit_outline.specs.Joining.{placed, appended, within_point_limit}
 use Rattle.tt_fit.specs.Fallback.{Fallback, never, where_refused, everywhere, is_program_fault}
-use Rattle.tt_fit.specs.Fitting.{Fitter, simple_start, added, added_work, fitted_outline, unfitted_fault}
+use Rattle.tt_fit.specs.Fitting.{Fitter, simple_start, begun_glyph, added, added_work, fitted_outline, unfitted_fault}
 use Rattle.tt_fit_hinting.specs.GlyphZone.{on_grid_at}
 use Rattle.tt_face.specs.Programs.{ProgramTables}
 use Rattle.tt_fit.specs.Preparation.{left_by_programs, programs_work, prepared}
@@ -55,6 +55,7 @@ its_fitter fallback = record {
     glyphs = 4;
   };
   metrics = its_metrics;
+  instance = None;
   ppem = 16;
   scaling = scaling.Exact;
   grid = grid_rule.Always;
@@ -62,6 +63,7 @@ its_fitter fallback = record {
   fallback = fallback;
   levels = level_limit;
   work = None;
+  control_deltas = 0;
   dropouts = by.Nobody;
 }
 
@@ -69,20 +71,20 @@ abbrev its_fault : Fault
 its_fault = fault_at (codes "glyf") 14 why.OffProfile
 
 program_is_refused : fitted_outline (its_fitter never) 1 ≡ Err its_fault
-unfolding fitted_outline unfitted_fault glyph_data_of glyph_bytes_of header_of described simple_of ends_from end_at
+unfolding fitted_outline unfitted_fault begun_glyph glyph_data_of glyph_bytes_of header_of described simple_of ends_from end_at
     points_within points_of flags_from run_at coordinates_from coordinate_at within_words delta_at byte_in word_in
     signed_in slice_in blank simple_start scaled_outline settled by_program on_grid_at run_of run_outcome run_within
 program_is_refused = refl
 
 square_is_unfitted : unfitted_fault (its_fitter where_refused) 1 ≡ Some its_fault
-unfolding unfitted_fault glyph_data_of glyph_bytes_of header_of described simple_of ends_from end_at
+unfolding unfitted_fault begun_glyph glyph_data_of glyph_bytes_of header_of described simple_of ends_from end_at
     points_within points_of flags_from run_at coordinates_from coordinate_at within_words delta_at byte_in word_in
     signed_in slice_in blank simple_start scaled_outline settled by_program on_grid_at run_of run_outcome run_within
     is_program_fault why_number program_work run_work work_within
 square_is_unfitted = refl
 
 composite_is_unfitted : unfitted_fault (its_fitter where_refused) 2 ≡ Some its_fault
-unfolding unfitted_fault added glyph_data_of glyph_bytes_of header_of described simple_of ends_from end_at
+unfolding unfitted_fault begun_glyph added glyph_data_of glyph_bytes_of header_of described simple_of ends_from end_at
     points_within points_of flags_from run_at coordinates_from coordinate_at within_words delta_at byte_in word_in
     signed_in slice_in blank simple_start scaled_outline settled by_program on_grid_at run_of run_outcome run_within
     composite_of records_from record_at known_glyph arguments_at argument_at transform_at unscaled program_of
@@ -100,7 +102,7 @@ composite_is_scaled : fitted_outline (its_fitter where_refused) 2 ≡ Ok (record
   };
   scan = None;
 })
-unfolding fitted_outline unfitted_fault added placed appended shift_of within_point_limit glyph_data_of glyph_bytes_of
+unfolding fitted_outline unfitted_fault begun_glyph added placed appended shift_of within_point_limit glyph_data_of glyph_bytes_of
     header_of described simple_of ends_from end_at points_within points_of flags_from run_at coordinates_from
     coordinate_at within_words delta_at byte_in word_in signed_in slice_in blank simple_start scaled_outline settled by_program
     on_grid_at run_of run_outcome run_within composite_of records_from record_at known_glyph arguments_at argument_at
@@ -108,7 +110,7 @@ unfolding fitted_outline unfitted_fault added placed appended shift_of within_po
 composite_is_scaled = refl
 
 short_is_refused : fitted_outline (its_fitter where_refused) 3 ≡ Err (fault_at (codes "glyf") 44 why.GlyphShort)
-unfolding fitted_outline unfitted_fault glyph_data_of glyph_bytes_of header_of described byte_in word_in signed_in
+unfolding fitted_outline unfitted_fault begun_glyph glyph_data_of glyph_bytes_of header_of described byte_in word_in signed_in
     slice_in is_program_fault why_number
 short_is_refused = refl
 
@@ -119,17 +121,17 @@ its_programs = record { cvt = []; fpgm = 6 ∷ []; prep = [] }
 abbrev font_fault : Fault
 font_fault = fault_at (codes "fpgm") 0 why.OffProfile
 
-font_program_is_refused : prepared its_metrics its_programs [] 16 fit.Full ≡ Err font_fault
+font_program_is_refused : prepared its_metrics its_programs None 16 fit.Full ≡ Err font_fault
 unfolding prepared left_by_programs run_of run_outcome run_within
 font_program_is_refused = refl
 
-by_it_every_glyph_is_unfitted : prepared its_metrics its_programs [] 16 fit.Fallback ≡ Ok
+by_it_every_glyph_is_unfitted : prepared its_metrics its_programs None 16 fit.Fallback ≡ Ok
     (record { hinting = off; fallback = everywhere font_fault; work = None })
 unfolding prepared left_by_programs run_of run_outcome run_within
 by_it_every_glyph_is_unfitted = refl
 
 -- with best: an opcode that nothing defines, whose step counts as work of 2
-with_best_every_glyph_is_unfitted : prepared its_metrics (record its_programs { fpgm = 0xA0 ∷ [] }) [] 16 fit.Best ≡ Ok
+with_best_every_glyph_is_unfitted : prepared its_metrics (record its_programs { fpgm = 0xA0 ∷ [] }) None 16 fit.Best ≡ Ok
     (record { hinting = off; fallback = everywhere (fault_at (codes "fpgm") 0 why.BadOpcode); work = Some 49999998 })
 unfolding prepared left_by_programs run_of run_outcome run_within programs_work run_work work_within slowness
 with_best_every_glyph_is_unfitted = refl

@@ -17,7 +17,7 @@ use Rattle.tt_metrics.specs.Metrics.{Metrics}
 use Rattle.tt_fit.specs.declared.programs.Fit.TheVariants as fit
 use Rattle.tt_fit.specs.declared.dropouts.DropoutsBy.TheVariants as by
 use Rattle.tt_fit.specs.Fallback.{never, where_refused}
-use Rattle.tt_fit.specs.Fitting.{Fitter, simple_start, added, fitted_outline, unfitted_fault}
+use Rattle.tt_fit.specs.Fitting.{Fitter, simple_start, begun_glyph, added, fitted_outline, unfitted_fault}
 use Rattle.tt_fit.specs.Preparation.{prepared}
 use Rattle.tt_fit.specs.Rules.{rules_of}
 use Rattle.tt_fit_outline.specs.declared.grid.GridRule.{GridRule}
@@ -57,6 +57,7 @@ its_fitter high low grid hinting = record {
     glyphs = 3;
   };
   metrics = its_metrics 1 0;
+  instance = None;
   ppem = 16;
   scaling = scaling.Rounded;
   grid = grid;
@@ -64,6 +65,7 @@ its_fitter high low grid hinting = record {
   fallback = never;
   levels = 8;
   work = None;
+  control_deltas = 0;
   dropouts = by.Programs;
 }
 
@@ -90,7 +92,7 @@ square x y phantom = record { points = square_at x y; ends = 4 ∷ []; phantom =
 -- with hinting on: -32 goes up to 0, and 992 to 1024
 ends_on_the_grid : fitted_outline (its_fitter 0 2 grid_rule.WhereHinted its_hinting) 1
     ≡ Ok (square (pos 0) (pos 0) (from_to (pos 0) (pos 1024)))
-unfolding fitted_outline unfitted_fault glyph_data_of glyph_bytes_of header_of described simple_of ends_from end_at points_within
+unfolding fitted_outline unfitted_fault begun_glyph glyph_data_of glyph_bytes_of header_of described simple_of ends_from end_at points_within
     points_of flags_from run_at coordinates_from coordinate_at within_words delta_at byte_in word_in signed_in slice_in
     blank simple_start scaled_outline settled on_grid_at
 ends_on_the_grid = refl
@@ -98,14 +100,14 @@ ends_on_the_grid = refl
 -- with hinting off, and with another fit
 ends_stay : fitted_outline (its_fitter 0 2 grid_rule.WhereHinted off) 1
     ≡ Ok (square (pos 0) (pos 0) (from_to (neg_ℤ (pos 32)) (pos 992)))
-unfolding fitted_outline unfitted_fault glyph_data_of glyph_bytes_of header_of described simple_of ends_from end_at points_within
+unfolding fitted_outline unfitted_fault begun_glyph glyph_data_of glyph_bytes_of header_of described simple_of ends_from end_at points_within
     points_of flags_from run_at coordinates_from coordinate_at within_words delta_at byte_in word_in signed_in slice_in
     blank simple_start scaled_outline settled
 ends_stay = refl
 
 ends_stay_with_others : fitted_outline (its_fitter 0 2 grid_rule.Always its_hinting) 1
     ≡ Ok (square (pos 0) (pos 0) (from_to (neg_ℤ (pos 32)) (pos 992)))
-unfolding fitted_outline unfitted_fault glyph_data_of glyph_bytes_of header_of described simple_of ends_from end_at points_within
+unfolding fitted_outline unfitted_fault begun_glyph glyph_data_of glyph_bytes_of header_of described simple_of ends_from end_at points_within
     points_of flags_from run_at coordinates_from coordinate_at within_words delta_at byte_in word_in signed_in slice_in
     blank simple_start scaled_outline settled
 ends_stay_with_others = refl
@@ -113,7 +115,7 @@ ends_stay_with_others = refl
 -- ROUND_XY_TO_GRID with hinting on: 32 goes up to 64, and -32 to 0. The composite keeps its own scaled ends
 offsets_go_up : fitted_outline (its_fitter 0 6 grid_rule.WhereHinted its_hinting) 2
     ≡ Ok (square (pos 64) (pos 0) (from_to (neg_ℤ (pos 16)) (pos 1008)))
-unfolding fitted_outline unfitted_fault added placed appended shift_of within_point_limit glyph_data_of glyph_bytes_of
+unfolding fitted_outline unfitted_fault begun_glyph added placed appended shift_of within_point_limit glyph_data_of glyph_bytes_of
     header_of described composite_of records_from record_at known_glyph arguments_at argument_at transform_at unscaled
     program_of simple_of ends_from end_at points_within points_of flags_from run_at coordinates_from coordinate_at
     within_words delta_at byte_in word_in signed_in slice_in blank simple_start scaled_outline settled on_grid_at
@@ -122,7 +124,7 @@ offsets_go_up = refl
 -- with hinting off the flag has no effect; with another fit halves go away from zero
 offsets_stay : fitted_outline (its_fitter 0 6 grid_rule.WhereHinted off) 2
     ≡ Ok (square (pos 32) (neg_ℤ (pos 32)) (from_to (neg_ℤ (pos 16)) (pos 1008)))
-unfolding fitted_outline unfitted_fault added placed appended shift_of within_point_limit glyph_data_of glyph_bytes_of
+unfolding fitted_outline unfitted_fault begun_glyph added placed appended shift_of within_point_limit glyph_data_of glyph_bytes_of
     header_of described composite_of records_from record_at known_glyph arguments_at argument_at transform_at unscaled
     program_of simple_of ends_from end_at points_within points_of flags_from run_at coordinates_from coordinate_at
     within_words delta_at byte_in word_in signed_in slice_in blank simple_start scaled_outline settled
@@ -130,7 +132,7 @@ offsets_stay = refl
 
 offsets_go_away : fitted_outline (its_fitter 0 6 grid_rule.Always off) 2
     ≡ Ok (square (pos 64) (neg_ℤ (pos 64)) (from_to (neg_ℤ (pos 16)) (pos 1008)))
-unfolding fitted_outline unfitted_fault added placed appended shift_of within_point_limit glyph_data_of glyph_bytes_of
+unfolding fitted_outline unfitted_fault begun_glyph added placed appended shift_of within_point_limit glyph_data_of glyph_bytes_of
     header_of described composite_of records_from record_at known_glyph arguments_at argument_at transform_at unscaled
     program_of simple_of ends_from end_at points_within points_of flags_from run_at coordinates_from coordinate_at
     within_words delta_at byte_in word_in signed_in slice_in blank simple_start scaled_outline settled
@@ -139,7 +141,7 @@ offsets_go_away = refl
 -- USE_MY_METRICS: the ends of the component, which has no program
 ends_of_the_component : fitted_outline (its_fitter 2 2 grid_rule.WhereHinted its_hinting) 2
     ≡ Ok (square (pos 32) (neg_ℤ (pos 32)) (from_to (pos 0) (pos 1024)))
-unfolding fitted_outline unfitted_fault added placed appended shift_of within_point_limit glyph_data_of glyph_bytes_of
+unfolding fitted_outline unfitted_fault begun_glyph added placed appended shift_of within_point_limit glyph_data_of glyph_bytes_of
     header_of described composite_of records_from record_at known_glyph arguments_at argument_at transform_at unscaled
     program_of simple_of ends_from end_at points_within points_of flags_from run_at coordinates_from coordinate_at
     within_words delta_at byte_in word_in signed_in slice_in blank simple_start scaled_outline settled on_grid_at
@@ -151,13 +153,13 @@ wide : Hinting → Fitter
 wide hinting = record (its_fitter 0 2 grid_rule.WhereHinted hinting) { ppem = 300; metrics = its_metrics 0x6D 0x42 }
 
 past_the_limit : fitted_outline (wide its_hinting) 1 ≡ Err (coordinate_fault 0)
-unfolding wide fitted_outline unfitted_fault glyph_data_of glyph_bytes_of header_of described simple_of ends_from end_at
+unfolding wide fitted_outline unfitted_fault begun_glyph glyph_data_of glyph_bytes_of header_of described simple_of ends_from end_at
     points_within points_of flags_from run_at coordinates_from coordinate_at within_words delta_at byte_in word_in
     signed_in slice_in blank simple_start scaled_outline settled on_grid_at
 past_the_limit = refl
 
 -- without a font program and a control value program, hinting is off, and no work is used
-nothing_is_run : prepared (its_metrics 1 0) no_programs [] 16 fit.Best
+nothing_is_run : prepared (its_metrics 1 0) no_programs None 16 fit.Best
     ≡ Ok (record { hinting = off; fallback = where_refused; work = Some 50000000 })
 unfolding prepared
 nothing_is_run = refl

@@ -7,20 +7,22 @@ ghost use Rattle.tt_core.specs.Outcomes.{FontGives, IfTold, font_fault};
 ghost use Rattle.tt_face.specs.Programs.{program_tables};
 ghost use Rattle.tt_fit.specs.Counting.{points_asked, counted};
 ghost use Rattle.tt_fit.specs.Defects.{IsOutlineDefect};
+ghost use Rattle.tt_fit.specs.DeltaCounting.{deltas_asked};
 ghost use Rattle.tt_fit.specs.Dropouts.{dropouts_of};
 ghost use Rattle.tt_fit.specs.Fallback.{where_refused};
 ghost use Rattle.tt_fit.specs.Fitting.{IsFitter, with_hinting, outline_at, glyph_work, unfitted_fault, fitted_outline, after_glyph, charged_fitter};
 ghost use Rattle.tt_fit.specs.Preparation.{fitter_of};
 ghost use Rattle.tt_fit.specs.Tried.{IfMade, IfRefused, outcome_of};
 ghost use Rattle.tt_fit_outline.specs.Views.{outline_of};
-ghost use Rattle.tt_fit_hinting.specs.state.Instances.{instance_of};
 ghost use Rattle.tt_fit_hinting.specs.Views.{hinting_view};
 ghost use Rattle.tt_fit_hinting.specs.Work.{RefusalLeaves, outline_fault};
 ghost use Rattle.tt_metrics.specs.Metrics.{loca_format_of, glyphs_of};
 
 use crate::counting::Counter;
+use crate::delta_counting::control_deltas;
 use crate::dropouts::{DropoutRules, DropoutsBy, program_rules};
 use crate::fallback::{Fallback, is_program_fault};
+use crate::font::{FittedFont, instance_copy};
 use crate::preparation::Preparation;
 use crate::programs::{Fit, ProgramsAtSize};
 use crate::rules::{dropouts_by, grid_of, levels_of, rules_of};
@@ -28,20 +30,20 @@ use crate::tried::TriedOutline;
 use std::alloc::{AllocError, Global};
 use std::marker::Model;
 use tt_core::{Fault, FontFault};
-use tt_face::Programs;
-use tt_fit_hinting::{GlyphMachine, Hinting, Instance, OutlineFault, Runner, Work, unbounded};
+use tt_face::{FaceInstance, Programs};
+use tt_fit_hinting::{GlyphMachine, Hinting, OutlineFault, Runner, Work, unbounded};
 use tt_fit_outline::{GridRule, Outline, Scaling};
 use tt_glyf::Glyf;
 use tt_metrics::Metrics;
 
-/// Makes the outlines of a font at a size. Clauses see the glyph data, the metrics, the size, and when distances are
-/// rounded to whole pixels. They see what the font's programs gave, and which glyphs are unfitted. They also see the
-/// depth limit of components, the job's remaining work, and the source of the dropout rules. The large parts are in boxes,
-/// since each line moves the fitter.
+/// Makes the outlines of a font at an instance and a size. Clauses see the glyph data, the metrics, the instance, the
+/// size, and when distances are rounded to whole pixels. They see what the font's programs gave, and which glyphs are
+/// unfitted. They also see the depth limit of components, the job's remaining work, the work of control values' deltas, and
+/// the source of the dropout rules. The large parts are in boxes, since each line moves the fitter.
 #[derive(Drop)]
 pub struct Fitter<'a> {
     pub(crate) alloc: Global,
-    pub(crate) metrics: Box<Metrics<'a>>,
+    pub(crate) font: Box<FittedFont<'a>>,
     pub(crate) glyf: Glyf<'a>,
     pub(crate) ppem: u32,
     pub(crate) scaling: Scaling,
@@ -52,6 +54,8 @@ pub struct Fitter<'a> {
     pub(crate) fallback: Fallback,
     pub(crate) levels: u32,
     pub(crate) work: Work,
+    /// The work of the deltas of control values, where work is bounded.
+    pub(crate) control_deltas: u64,
     pub(crate) dropouts: DropoutsBy,
 }
 
@@ -63,23 +67,23 @@ impl<'a> Model for Fitter<'a> {
 
     ghost Value = { fitting.Fitter };
 
-    ghost view = { λ f. record { tables = f.glyf; metrics = f.metrics.value; ppem = f.ppem; scaling = f.scaling; grid = f.grid; hinting = hinting_view f.hinting.value; fallback = fallback_view f.fallback; levels = f.levels; work = f.work.left; dropouts = f.dropouts } };
+    ghost view = { λ f. record { tables = f.glyf; metrics = f.font.value.metrics; instance = f.font.value.instance; ppem = f.ppem; scaling = f.scaling; grid = f.grid; hinting = hinting_view f.hinting.value; fallback = fallback_view f.fallback; levels = f.levels; work = f.work.left; control_deltas = f.control_deltas; dropouts = f.dropouts } };
 
-    ghost invariant = { λ f. IsFitter (record { tables = f.glyf; metrics = f.metrics.value; ppem = f.ppem; scaling = f.scaling; grid = f.grid; hinting = hinting_view f.hinting.value; fallback = fallback_view f.fallback; levels = f.levels; work = f.work.left; dropouts = f.dropouts }) };
+    ghost invariant = { λ f. IsFitter (record { tables = f.glyf; metrics = f.font.value.metrics; instance = f.font.value.instance; ppem = f.ppem; scaling = f.scaling; grid = f.grid; hinting = hinting_view f.hinting.value; fallback = fallback_view f.fallback; levels = f.levels; work = f.work.left; control_deltas = f.control_deltas; dropouts = f.dropouts }) };
 }
 
 impl<'a> Fitter<'a> {
-    /// Takes a font's metrics, glyph data and programs, and the instance of the font. `Fit::Full` runs the font program
-    /// and the control value program at this size, in pixels per em. `Fit::None` ignores them. Programs can read the
-    /// instance with `Fit::Best`. Errors: those of the two programs, Memory. With `Fit::Fallback` and `Fit::Best` a
-    /// fault of the two programs makes every glyph unfitted.
+    /// Takes a font's metrics, glyph data and programs, and its instance, if that is not the default. `Fit::Full` runs the
+    /// font program and the control value program at this size, in pixels per em. `Fit::None` ignores them. Control values
+    /// are those of the instance, whose places programs can read with `Fit::Best`. Errors: those of the two programs,
+    /// Memory. With `Fit::Fallback` and `Fit::Best` a fault of the two programs makes every glyph unfitted.
     #[tactic(auto, using(crate::proofs::Hintings::is_hinting), unfolding(crate::specs::Preparation::fitter_of))]
     pub fn new(
         alloc: Global,
         metrics: &Metrics<'a>,
         glyf: Glyf<'a>,
         programs: Programs<'a>,
-        instance: Instance,
+        instance: &Option<FaceInstance<'a>>,
         ppem: u32,
         fit: Fit,
     ) -> Result<Fitter<'a>, FontFault>
@@ -89,10 +93,11 @@ impl<'a> Fitter<'a> {
         requires glyphs { glyf.glyphs ≡ glyphs_of metrics.now }
         requires fpgm { length programs.fpgm.now ≤ font_limit }
         requires prep { length programs.prep.now ≤ font_limit }
-        ensures exact { FontGives (λ f. f) result (fitter_of metrics.now glyf.entry (program_tables programs.entry) (instance_of instance) ppem fit) }
+        ensures exact { FontGives (λ f. f) result (fitter_of metrics.now glyf.entry (program_tables programs.entry) instance.now ppem fit) }
         ensures valid { IfOk result IsFitter }
         ensures tables { IfOk result (λ f. f.tables ≡ glyf.entry) }
         ensures metrics { IfOk result (λ f. f.metrics ≡ metrics.now) }
+        ensures instance { IfOk result (λ f. f.instance ≡ instance.now) }
         ensures ppem { IfOk result (λ f. f.ppem ≡ ppem) }
     {
         let sized = ProgramsAtSize {
@@ -107,11 +112,15 @@ impl<'a> Fitter<'a> {
             fallback,
             work,
         } = sized.prepared(alloc)?;
-        let metrics = Box::new(alloc, metrics.copy())?;
+        let font = FittedFont {
+            metrics: metrics.copy(),
+            instance: instance_copy(instance),
+        };
+        let font = Box::new(alloc, font)?;
         let hinting = Box::new(alloc, hinting)?;
         Ok(Fitter {
             alloc,
-            metrics,
+            font,
             glyf,
             ppem,
             scaling: rules_of(fit).scaling,
@@ -121,6 +130,7 @@ impl<'a> Fitter<'a> {
             fallback,
             levels: levels_of(fit),
             work,
+            control_deltas: control_deltas(fit, instance, programs.cvt),
             dropouts: dropouts_by(fit),
         })
     }
@@ -142,7 +152,30 @@ impl<'a> Fitter<'a> {
         }
     }
 
-    /// The outline of a glyph, in 26.6 pixels. Errors: those of reading a glyph, CoordRange, ComponentDepth,
+    /// The work of a glyph's deltas at the instance, counted from headers before the glyph is made; 0 by the font's
+    /// default. A component counts each time it is used. None where it is more than `most`. Error: out of memory.
+    pub fn deltas(&self, g: u16, most: u64) -> Result<Option<u64>, AllocError>
+        requires { g < self.now.tables.glyphs }
+        ensures exact { IfOk result (λ n. n ≡ counted most (deltas_asked self.now.instance self.now.tables self.now.levels g)) }
+    {
+        let left = match self.instance() {
+            Some(instance) => self.deltas_left(instance, g, most)?,
+            None => Some(most),
+        };
+        match left {
+            Some(left) => Ok(Some(most - left)),
+            None => Ok(None),
+        }
+    }
+
+    /// The work of the deltas of control values at the instance, where work is bounded; else 0.
+    pub fn control_deltas(&self) -> u64
+        ensures { result ≡ self.now.control_deltas }
+    {
+        self.control_deltas
+    }
+
+    /// The outline of a glyph, in 26.6 pixels. Errors: those of reading a glyph, GlyphVariation, CoordRange, ComponentDepth,
     /// MatchPoint, PointLimit, those of the programs of the glyph and its components, Memory. With `Fit::Fallback` and
     /// `Fit::Best` a program's fault is reported with the outline, whose points, also those of components, are then
     /// only scaled. `Fit::Best` does this for StepLimit too, where the programs exceed the job's remaining work.

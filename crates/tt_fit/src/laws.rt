@@ -1,6 +1,7 @@
 //! Laws of the definitions. Each function is a lemma: its clauses hold of all glyphs, and no code runs.
 
-ghost use Rattle.tt_fit.specs.Laws.{OutlinesAreWhole, OutlineFaultsStand, OthersReadNoInstance, UnboundedIsEnough, OthersAreUnbounded, UnboundedStays, SpentWorkUnfits, SpentProgramsUnfitAll};
+ghost use Rattle.tt_fit.specs.Laws.{OutlinesAreWhole, OutlineFaultsStand, OthersReadNoInstance, BestReadsPlaces, UnboundedIsEnough, OthersAreUnbounded, UnboundedStays, SpentWorkUnfits, SpentProgramsUnfitAll};
+ghost use Rattle.tt_fit.specs.DeltaCounting.{DefaultsAskNoDeltas};
 ghost use Rattle.tt_fit.specs.GlyphCost.{ChargesTakeWorkAlone, CostsStay, FittersRenew, GlyphsAreMadeFor, GlyphsHaveCosts, GlyphsTakeWorkAlone, PaidIsMade, WorkIsApart};
 
 /// Lemma: an outline means that the glyph and its components have no defect, and a fault names a defect they have.
@@ -9,9 +10,16 @@ pub fn outlines_are_whole()
     ensures fault { OutlineFaultsStand }
 {}
 
-/// Lemma: with every fit but `Fit::Best` the instance changes nothing, since no program can read it.
+/// Lemma: with every fit but `Fit::Best` no program can read the instance's places. Of the instance the two programs see
+/// the control values alone. With `Fit::Best` they read the place on each axis.
 pub fn others_read_no_instance()
-    ensures { OthersReadNoInstance }
+    ensures others { OthersReadNoInstance }
+    ensures best { BestReadsPlaces }
+{}
+
+/// Lemma: by the font's default no deltas are asked for.
+pub fn defaults_ask_no_deltas()
+    ensures { DefaultsAskNoDeltas }
 {}
 
 /// Lemma: with every fit but `Fit::Best` work is unbounded and refuses no glyph. With `Fit::Best` a glyph whose

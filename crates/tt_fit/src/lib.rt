@@ -1,10 +1,15 @@
 //! Outlines of a font's glyphs at a size, by a way of fitting: runs the font's programs first, then makes each glyph.
 #![tactic(auto)]
 
+mod beginning;
+mod begun;
+mod control_values;
 mod counting;
+mod delta_counting;
 mod dropouts;
 mod fallback;
 mod fitting;
+mod font;
 pub mod laws;
 mod outlines;
 mod paying;
@@ -12,7 +17,9 @@ mod preparation;
 mod programs;
 mod rules;
 mod tried;
+mod variation;
 
+pub use delta_counting::DELTA_LIMIT;
 pub use dropouts::{DropoutRules, DropoutsBy};
 pub use fitting::Fitter;
 pub use paying::OutlineAtCost;
@@ -21,5 +28,4 @@ pub use programs::Fit;
 pub use tried::TriedOutline;
 pub use tt_core::FontFault as FitFault;
 pub use tt_face::Programs;
-pub use tt_fit_hinting::Instance;
 pub use tt_fit_outline::{Outline, pixels_of};

@@ -1,31 +1,35 @@
 //! Runs the font program and the control value program before the first glyph. Apple TrueType Reference Manual,
 //! "Instructing TrueType Glyphs".
 
-ghost use Rattle.std.specs.Prelude.{◌≡◌, ◌≤◌, length, Ok, IsTrue};
+ghost use Rattle.std.specs.Prelude.{◌≡◌, ◌≤◌, length, IfOk, IsTrue, Ok};
 ghost use Rattle.tt_core.specs.Faults.{is_ascii};
 ghost use Rattle.tt_core.specs.Limits.{font_limit};
 ghost use Rattle.tt_core.specs.Outcomes.{FontGives};
+ghost use Rattle.tt_core.specs.Scales.{IsScale};
+ghost use Rattle.tt_metrics.specs.Metrics.{units_per_em_of};
 ghost use Rattle.tt_fit_hinting.specs.machine.Parts.{parts_of};
-ghost use Rattle.tt_fit_hinting.specs.state.Instances.{instance_of};
 ghost use Rattle.tt_fit_hinting.specs.step.Views.{code_of};
 ghost use Rattle.tt_face.specs.Programs.{program_tables};
-ghost use Rattle.tt_fit.specs.Preparation.{hinting_left, left_by_programs, programs_work, without_fallback, within_work, begun_at, left_at, work_from, work_at, prepared};
+ghost use Rattle.tt_fit.specs.Preparation.{default_parts, hinting_left, left_by_programs, programs_work, without_fallback, within_work, begun_at, left_at, work_from, work_at, prepared};
 ghost use Rattle.tt_fit.specs.Fallback.{everywhere};
 ghost use Rattle.tt_fit_hinting.specs.Hinting.{off};
 ghost use Rattle.tt_fit.specs.Rules.{rules_of, work_of};
 ghost use Rattle.tt_fit_hinting.specs.Views.{hinting_view};
 ghost use Rattle.tt_fit.specs.Views.{preparation_view};
 ghost use Rattle.tt_fit_hinting.specs.Work.{Makes, WorkGives};
+ghost use Rattle.tt_fit_outline.specs.Size.{size_by};
 
+use crate::control_values::{cvar_read, instance_control_values, places_of};
 use crate::fallback::Fallback;
 use crate::programs::{Fit, ProgramsAtSize};
 use crate::rules::{cvt_read, instance_read, rules_of, runs_programs, work_of};
-use std::alloc::Global;
+use std::alloc::{AllocError, Global};
 use std::mem::swap;
-use tt_core::{Fault, FontFault};
+use tt_core::{Fault, FontFault, Scale};
 use tt_fit_hinting::{
     Code, Hinting, OutlineFault, Parts, Work, begun_parts, left_to_glyphs, run, unbounded,
 };
+use tt_fit_outline::FontSize;
 
 /// The state for glyph programs, which glyphs are unfitted, and the job's remaining work.
 #[derive(Drop)]
@@ -81,21 +85,48 @@ fn all_unfitted<'a>(fault: Fault, work: Work) -> Preparation<'a>
 }
 
 impl<'a> ProgramsAtSize<'_, 'a> {
+    /// The scale of control values.
+    fn control_scale(&self) -> Scale
+        ensures exact { result ≡ (size_by (rules_of self.now.fit).scaling self.now.ppem (units_per_em_of self.now.metrics.now)).control_values }
+        ensures valid { IsScale result }
+    {
+        FontSize::of(self.metrics, self.ppem, rules_of(self.fit).scaling).control_values
+    }
+
+    /// The parts by the font's default, at the places that programs can read. Error: out of memory.
+    fn default_parts(&self, alloc: Global, cvt: &[u8]) -> Result<Parts<'a>, AllocError>
+        ensures { IfOk result (λ p. parts_of p ≡ default_parts self.now.metrics.now cvt.now self.now.instance.now self.now.ppem self.now.fit) }
+    {
+        let rules = rules_of(self.fit);
+        let places = instance_read(self.fit, places_of(self.instance));
+        begun_parts(alloc, self.metrics, cvt, self.ppem, rules, places)
+    }
+
+    /// The parts at the start of the two programs. Error: out of memory.
+    fn begun(&self, alloc: Global) -> Result<Parts<'a>, AllocError>
+        ensures { IfOk result (λ p. parts_of p ≡ begun_at self.now.metrics.now (program_tables self.now.programs) self.now.instance.now self.now.ppem self.now.fit) }
+    {
+        let cvt = cvt_read(self.fit, self.programs.cvt);
+        let mut parts = self.default_parts(alloc, cvt)?;
+        if let Some(own) = self.instance {
+            let cvar = cvar_read(self.fit, own, cvt);
+            parts.cvt = instance_control_values(alloc, own, self.control_scale(), cvar, cvt)?;
+        }
+        Ok(parts)
+    }
+
     /// The state after both programs. Errors: theirs, Memory, Spent.
     #[tactic(auto, unfolding(crate::specs::Preparation::left_by_programs, crate::specs::Preparation::programs_work))]
     fn left_by_programs(&self, alloc: Global, work: &mut Work) -> Result<Hinting<'a>, OutlineFault>
         ensures exact { let tables = program_tables self.now.programs in
-            Makes hinting_view result (left_by_programs (begun_at self.now.metrics.now tables (instance_of self.now.instance) self.now.ppem self.now.fit) tables) }
+            Makes hinting_view result (left_by_programs (begun_at self.now.metrics.now tables self.now.instance.now self.now.ppem self.now.fit) tables) }
         ensures work { let tables = program_tables self.now.programs in
-            WorkGives result work.new.left (programs_work (begun_at self.now.metrics.now tables (instance_of self.now.instance) self.now.ppem self.now.fit) tables work.old.left) }
+            WorkGives result work.new.left (programs_work (begun_at self.now.metrics.now tables self.now.instance.now self.now.ppem self.now.fit) tables work.old.left) }
     {
-        let rules = rules_of(self.fit);
-        let cvt = cvt_read(self.fit, self.programs.cvt);
-        let instance = instance_read(self.fit, self.instance);
-        let begun = begun_parts(alloc, self.metrics, cvt, self.ppem, rules, instance)?;
+        let begun = self.begun(alloc)?;
         let fpgm = whole_table(*b"fpgm", self.programs.fpgm);
         let mut font = run(alloc, begun, fpgm, work)?;
-        let mut prep_parts = begun_parts(alloc, self.metrics, cvt, self.ppem, rules, instance)?;
+        let mut prep_parts = self.begun(alloc)?;
         swap(&mut prep_parts.functions, &mut font.functions);
         swap(&mut prep_parts.instructions, &mut font.instructions);
         let prep = whole_table(*b"prep", self.programs.prep);
@@ -105,8 +136,8 @@ impl<'a> ProgramsAtSize<'_, 'a> {
 
     /// The state after both programs, where they are run. Errors: theirs, Memory, Spent.
     fn left(&self, alloc: Global, work: &mut Work) -> Result<Hinting<'a>, OutlineFault>
-        ensures exact { Makes hinting_view result (left_at self.now.metrics.now (program_tables self.now.programs) (instance_of self.now.instance) self.now.ppem self.now.fit) }
-        ensures work { WorkGives result work.new.left (work_from self.now.metrics.now (program_tables self.now.programs) (instance_of self.now.instance) self.now.ppem self.now.fit work.old.left) }
+        ensures exact { Makes hinting_view result (left_at self.now.metrics.now (program_tables self.now.programs) self.now.instance.now self.now.ppem self.now.fit) }
+        ensures work { WorkGives result work.new.left (work_from self.now.metrics.now (program_tables self.now.programs) self.now.instance.now self.now.ppem self.now.fit work.old.left) }
     {
         if runs_programs(self.fit, self.programs) {
             self.left_by_programs(alloc, work)
@@ -118,7 +149,7 @@ impl<'a> ProgramsAtSize<'_, 'a> {
     /// The state after both programs. After a fault of either, every glyph is unfitted. Error: Memory.
     fn with_fallback(&self, alloc: Global) -> Result<Preparation<'a>, FontFault>
         ensures exact { let tables = program_tables self.now.programs in
-            FontGives preparation_view result (Ok (within_work (work_at self.now.metrics.now tables (instance_of self.now.instance) self.now.ppem self.now.fit) (left_at self.now.metrics.now tables (instance_of self.now.instance) self.now.ppem self.now.fit))) }
+            FontGives preparation_view result (Ok (within_work (work_at self.now.metrics.now tables self.now.instance.now self.now.ppem self.now.fit) (left_at self.now.metrics.now tables self.now.instance.now self.now.ppem self.now.fit))) }
     {
         let mut work = work_of(self.fit);
         match self.left(alloc, &mut work) {
@@ -139,7 +170,7 @@ impl<'a> ProgramsAtSize<'_, 'a> {
     /// `Fit::Best`; Memory.
     #[tactic(auto, unfolding(crate::specs::Preparation::prepared))]
     pub(crate) fn prepared(&self, alloc: Global) -> Result<Preparation<'a>, FontFault>
-        ensures exact { FontGives preparation_view result (prepared self.now.metrics.now (program_tables self.now.programs) (instance_of self.now.instance) self.now.ppem self.now.fit) }
+        ensures exact { FontGives preparation_view result (prepared self.now.metrics.now (program_tables self.now.programs) self.now.instance.now self.now.ppem self.now.fit) }
     {
         match self.fit {
             Fit::Full => {

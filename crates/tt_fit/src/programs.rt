@@ -3,8 +3,7 @@
 ghost use Rattle.std.specs.Prelude.{◌≤◌, length};
 ghost use Rattle.tt_core.specs.Limits.{font_limit, size_limit};
 
-use tt_face::Programs;
-use tt_fit_hinting::Instance;
+use tt_face::{FaceInstance, Programs};
 use tt_metrics::Metrics;
 
 /// How outlines are fitted to the grid.
@@ -30,7 +29,8 @@ pub(crate) struct ProgramsAtSize<'m, 'a> {
     /// Pixels per em.
     pub(crate) ppem: u32,
     pub(crate) fit: Fit,
-    pub(crate) instance: Instance,
+    /// The font's instance, if that is not the default.
+    pub(crate) instance: &'m Option<FaceInstance<'a>>,
     pub(crate) ghost limit: { ppem ≤ size_limit },
     pub(crate) ghost fpgm: { length programs.fpgm.now ≤ font_limit },
     pub(crate) ghost prep: { length programs.prep.now ≤ font_limit },

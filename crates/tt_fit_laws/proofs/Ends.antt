@@ -1,5 +1,5 @@
 -- With hinting on, the ends of a simple glyph's advance are whole pixels.
-use Rattle.std.proofs.Common.{◌≡◌, ◌∙◌, ap, subst, ℕ, ◌==◌, if◌then◌else◌, List, [], length, Result, Ok, ℤ, pos, ◌+ℤ◌, ◌-ℤ◌, ◌*ℤ◌, ◌≤ℤ◌, ◌<ℤ◌, true, refl, arith}
+use Rattle.std.proofs.Common.{◌≡◌, ◌∙◌, ap, subst, ℕ, ◌==◌, if◌then◌else◌, List, [], length, Option, Some, None, Result, Ok, ℤ, pos, ◌+ℤ◌, ◌-ℤ◌, ◌*ℤ◌, ◌≤ℤ◌, ◌<ℤ◌, true, refl, arith}
 use Rattle.std.specs.Int.{int_div_euclid}
 use Rattle.std.proofs.lemmas.Int.{ints}
 use Rattle.tt_core.specs.Chains.{came-through, passed-else}
@@ -7,9 +7,11 @@ use Rattle.tt_core.specs.Faults.{Fault}
 use Rattle.tt_core.specs.Outcomes.{◌>>=◌, each}
 use Rattle.tt_glyf.specs.Loca.{glyph_offset}
 use Rattle.tt_glyf.specs.GlyphData.{glyph_data_of}
-use Rattle.tt_glyf.specs.Raw.{Raw, simple}
+use Rattle.tt_glyf.specs.Raw.{Raw, SimpleGlyph, simple}
 use Rattle.tt_glyf.specs.declared.raw.RawPoint.{RawPoint}
-use Rattle.tt_fit.specs.Fitting.{Fitter, size_of, start, glyph_grid, simple_start, simple_program, made, added, glyph_fitter, fitted_outline}
+use Rattle.tt_deltas.specs.Glyphs.{VariedPoints}
+use Rattle.tt_face.specs.Faces.{FaceInstance}
+use Rattle.tt_fit.specs.Fitting.{Begun, Fitter, size_of, start, glyph_grid, simple_start, joined, simple_begun, default_phantom, default_units, begun_by_default, units_at, fine_phantom, fine_start, simple_moved, simple_varied, begun_varied, begun_by, begun_glyph, finished, made, added, glyph_fitter, fitted_outline}
 use Rattle.tt_fit.specs.Hinted.{IsWhole, EndsAreWhole, HasWholeStep, SimpleStepsAreWhole}
 use Rattle.tt_fit_outline.specs.declared.grid.Grid.{Grid}
 use Rattle.tt_fit_outline.specs.declared.grid.Grid.TheVariants as rounding
@@ -23,6 +25,8 @@ use Rattle.tt_fit_outline.specs.Scaling.{scaled_point, scaled_outline}
 use Rattle.tt_fit_outline.specs.Size.{FontSize}
 use Rattle.tt_fit_outline.specs.Steps.{at_least_zero, pixels_of}
 use Rattle.tt_fit_outline.proofs.Pixels.{floor-below, floor-above}
+use Rattle.tt_fit_variation.specs.Advance.{deltas_of}
+use Rattle.tt_fit_variation.specs.Moved.{instance_points}
 
 -- on the grid
 abbrev whole_pixels : ℤ → ℤ
@@ -65,12 +69,12 @@ settled-by : (by : Grid) (at : ℕ) (code : List ℕ) (o begun : Outline) → by
     → IsWhole begun.phantom.left.0 × IsWhole begun.phantom.right.0
 settled-by by at code o begun up none was = settled-ends at o begun (rw (up, none) at was)
 
-started-ends : (s : Fitter) (x_min : ℤ) (g : ℕ) (code : List ℕ) (begun : Outline) → glyph_grid s ≡ rounding.Up
-    → code ≡ [] → simple_start s x_min g code ≡ Ok begun
+started-ends : (s : Fitter) (phantom : PhantomPoints) (g : ℕ) (code : List ℕ) (begun : Outline)
+    → glyph_grid s ≡ rounding.Up → code ≡ [] → simple_start s phantom g code ≡ Ok begun
     → IsWhole begun.phantom.left.0 × IsWhole begun.phantom.right.0
 unfolding simple_start
-started-ends s x_min g code begun up none was =
-    let first = came-through (start s x_min g) _ begun was in
+started-ends s phantom g code begun up none was =
+    let first = came-through (start s phantom g) _ begun was in
     settled-by (glyph_grid s) (glyph_offset s.tables g) code first.value begun up none first.rest
 
 -- neither scaling nor an empty program moves them
@@ -106,17 +110,60 @@ read-as : (x : Result Raw Fault) (d : Raw) (rest : Raw → Result Outline Fault)
     → (x >>= rest) ≡ Ok o → rest d ≡ Ok o
 read-as x d rest o read was = rw read at was
 
+-- a simple glyph that is begun
+abbrev AreWhole : PhantomPoints → Type 0
+AreWhole p = IsWhole p.left.0 × IsWhole p.right.0
+
+record IsBare (b : Begun) : Type 0 where
+  pub ends : AreWhole b.outline.phantom
+  pub records : b.records ≡ []
+  pub code : b.program.code ≡ []
+
+default-bare : (s : Fitter) (g : ℕ) (d : SimpleGlyph) (b : Begun) → glyph_grid s ≡ rounding.Up → d.code ≡ []
+    → begun_by_default s g (simple d) ≡ Ok b → IsBare b
+default-bare s g d b up none was =
+    let begun = came-through (simple_start s (default_phantom s d.x_min g) g d.code) _ b was in
+    let scaled = came-through (scaled_outline (size_of s) (glyph_offset s.tables g) d.points d.ends begun.value) _ b
+    begun.rest in
+    let whole = started-ends s (default_phantom s d.x_min g) g d.code begun.value up none begun.first in
+    let stay = scaled-ends (size_of s) (glyph_offset s.tables g) d.points d.ends begun.value scaled.value scaled.first in
+    let same : simple_begun s g d d.points (default_units s d.x_min g) scaled.value ≡ b = let done = scaled.rest in cc in
+    rw (← same) (record { ends = subst AreWhole stay whole; records = refl; code = none })
+
+varied-bare : (s : Fitter) (g : ℕ) (d : SimpleGlyph) (v : VariedPoints) (b : Begun) → glyph_grid s ≡ rounding.Up
+    → d.code ≡ [] → simple_varied s g d v ≡ Ok b → IsBare b
+varied-bare s g d v b up none was =
+    let begun = came-through (fine_start s g d v) _ b was in
+    let units = came-through (units_at s d.x_min g (length d.points) v) _ begun.value begun.first in
+    let started = came-through (simple_start s (fine_phantom s g d v) g d.code) _ begun.value units.rest in
+    let points = came-through (instance_points (size_of s) (glyph_offset s.tables g) d.points v.xs v.ys) _ b begun.rest in
+    let whole = started-ends s (fine_phantom s g d v) g d.code started.value up none started.first in
+    let stay : started.value.phantom ≡ begun.value.outline.phantom = let done = started.rest in cc in
+    let same : simple_moved s g d begun.value points.value ≡ b = let done = points.rest in cc in
+    rw (← same) (record { ends = subst AreWhole stay whole; records = refl; code = none })
+
+bare-by : (instance : Option FaceInstance) (s : Fitter) (g : ℕ) (d : SimpleGlyph) (b : Begun)
+    → glyph_grid s ≡ rounding.Up → d.code ≡ [] → begun_by instance s g (simple d) ≡ Ok b → IsBare b
+bare-by None s g d b up none was = default-bare s g d b up none was
+bare-by (Some i) s g d b up none was =
+    let v = came-through (deltas_of i.gvar i.coordinates g (simple d)) (begun_varied s g (simple d)) b was in
+    varied-bare s g d v.value b up none v.rest
+
+bare : (s : Fitter) (g : ℕ) (d : SimpleGlyph) (b : Begun) → glyph_grid s ≡ rounding.Up → d.code ≡ []
+    → begun_glyph s g (simple d) ≡ Ok b → IsBare b
+unfolding begun_glyph
+bare s g d b up none was = bare-by s.instance s g d b up none was
+
 pub simple-steps-are-whole : SimpleStepsAreWhole
 unfolding fitted_outline
 simple-steps-are-whole s g d o grid on read none was =
     let t = glyph_fitter s g in
-    let z = size_of t in
-    let at = glyph_offset t.tables g in
     let up = up-where-on s.grid t.hinting grid on in
     let by_start = read-as (glyph_data_of s.tables g) (simple d) (made t (added t s.levels) g) o read was in
-    let begun = came-through (simple_start t d.x_min g d.code) _ o by_start in
-    let scaled = came-through (scaled_outline z at d.points d.ends begun.value) _ o begun.rest in
-    let whole = started-ends t d.x_min g d.code begun.value up none begun.first in
-    let one = scaled-ends z at d.points d.ends begun.value scaled.value scaled.first in
-    let two = empty-ends t.hinting (simple_program t g d) scaled.value o none scaled.rest in
-    steps-by o begun.value.phantom (one ∙ two) whole
+    let b = came-through (begun_glyph t g (simple d)) (finished t (added t s.levels)) o by_start in
+    let is = bare t g d b.value up none b.first in
+    let all = came-through (joined (added t s.levels) b.value.records b.value.outline) _ o b.rest in
+    let alone : ◌≡◌ {A = Result Outline Fault} (Ok b.value.outline) (Ok all.value) = rw is.records at all.first in
+    let one : b.value.outline.phantom ≡ all.value.phantom = cc in
+    let two = empty-ends t.hinting b.value.program all.value o is.code all.rest in
+    steps-by o b.value.outline.phantom (one ∙ two) is.ends

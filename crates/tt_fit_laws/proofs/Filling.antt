@@ -13,6 +13,7 @@ use Rattle.tt_fit.specs.Dropouts.{default_rules, none_ran, rules_by, type_rules}
 use Rattle.tt_fit.specs.Fitting.{Fitter, after_glyph}
 use Rattle.tt_fit_hinting.specs.Hinting.{Hinting, off}
 use Rattle.tt_fit.specs.Laws.{OthersFillNone, RulesStay, UnfittedByTypeOne, EmptyByTypeOne, SkippedByTypeOne, FittedByScan, OffFillsNone, OtherTypesFillNone}
+use Rattle.tt_face.specs.Faces.{FaceInstance}
 use Rattle.tt_face.specs.Programs.{ProgramTables}
 use Rattle.tt_fit.specs.Preparation.{prepared, fitter_of}
 use Rattle.tt_fit.specs.Rules.{dropouts_by}
@@ -22,7 +23,7 @@ use Rattle.tt_fit_laws.proofs.Hinted.{off-where-empty, off-where-switched}
 said : (t s : Fitter) → ◌≡◌ {A = Result Fitter Fault} (Ok t) (Ok s) → s.dropouts ≡ t.dropouts
 said t s is = let same : t ≡ s = cc in ap (λ (x : Fitter). x.dropouts) (sym same)
 
-says : (m : Metrics) (tables : Glyf) (programs : ProgramTables) (instance : List ℤ) (ppem : ℕ) (how : Fit) (s : Fitter)
+says : (m : Metrics) (tables : Glyf) (programs : ProgramTables) (instance : Option FaceInstance) (ppem : ℕ) (how : Fit) (s : Fitter)
     → fitter_of m tables programs instance ppem how ≡ Ok s → s.dropouts ≡ dropouts_by how
 unfolding fitter_of
 says m tables programs instance ppem how s is =

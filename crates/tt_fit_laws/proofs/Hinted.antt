@@ -4,6 +4,7 @@ use Rattle.tt_core.specs.Chains.{came-through}
 use Rattle.tt_core.specs.Faults.{Fault}
 use Rattle.tt_exec.specs.Parts.{Parts}
 use Rattle.tt_exec.specs.Work.{Worked, enough, spent}
+use Rattle.tt_face.specs.Faces.{FaceInstance}
 use Rattle.tt_face.specs.Programs.{ProgramTables}
 use Rattle.tt_glyf.specs.Loca.{Glyf}
 use Rattle.tt_metrics.specs.Metrics.{Metrics}
@@ -22,7 +23,7 @@ use Rattle.tt_fit_hinting.specs.Hinting.{Hinting, off, is_on, grid_by, run_of}
 of-fitter : (t s : Fitter) → ◌≡◌ {A = Result Fitter Fault} (Ok t) (Ok s) → s.hinting ≡ t.hinting
 of-fitter t s is = let same : t ≡ s = cc in ap (λ (x : Fitter). x.hinting) (sym same)
 
-hinting-of : (m : Metrics) (tables : Glyf) (programs : ProgramTables) (instance : List ℤ) (ppem : ℕ) (s : Fitter)
+hinting-of : (m : Metrics) (tables : Glyf) (programs : ProgramTables) (instance : Option FaceInstance) (ppem : ℕ) (s : Fitter)
     → fitter_of m tables programs instance ppem fit.Best ≡ Ok s
     → s.hinting ≡
     (within_work (work_at m programs instance ppem fit.Best) (left_at m programs instance ppem fit.Best)).hinting
@@ -34,11 +35,11 @@ off-within (enough after) left is = rw is refl
 off-within (spent f) left is = refl
 
 -- where both programs are empty
-pub left-where-empty : (m : Metrics) (programs : ProgramTables) (instance : List ℤ) (ppem : ℕ) → AreEmpty programs
+pub left-where-empty : (m : Metrics) (programs : ProgramTables) (instance : Option FaceInstance) (ppem : ℕ) → AreEmpty programs
     → left_at m programs instance ppem fit.Best ≡ Ok off
 left-where-empty m programs instance ppem are = rw (are.fpgm, are.prep) refl
 
-pub off-where-empty : (m : Metrics) (tables : Glyf) (programs : ProgramTables) (instance : List ℤ) (ppem : ℕ)
+pub off-where-empty : (m : Metrics) (tables : Glyf) (programs : ProgramTables) (instance : Option FaceInstance) (ppem : ℕ)
     (s : Fitter)
     → AreEmpty programs → fitter_of m tables programs instance ppem fit.Best ≡ Ok s → s.hinting ≡ off
 off-where-empty m tables programs instance ppem s are is =
@@ -55,7 +56,7 @@ unfolding left_by_programs
 left-where-switched false parts programs font left by_font by_values skips = refl
 left-where-switched true parts programs font left by_font by_values skips = rw (by_font, by_values, skips) refl
 
-pub off-where-switched : (m : Metrics) (tables : Glyf) (programs : ProgramTables) (instance : List ℤ) (ppem : ℕ)
+pub off-where-switched : (m : Metrics) (tables : Glyf) (programs : ProgramTables) (instance : Option FaceInstance) (ppem : ℕ)
     (s : Fitter)
     → SwitchedOff m programs instance ppem → fitter_of m tables programs instance ppem fit.Best ≡ Ok s → s.hinting ≡ off
 off-where-switched m tables programs instance ppem s switched is =
@@ -84,7 +85,7 @@ unfitted-is-off s g f is = rw is refl
 grid-of : (t s : Fitter) → ◌≡◌ {A = Result Fitter Fault} (Ok t) (Ok s) → s.grid ≡ t.grid
 grid-of t s is = let same : t ≡ s = cc in ap (λ (x : Fitter). x.grid) (sym same)
 
-by-fit : (m : Metrics) (tables : Glyf) (programs : ProgramTables) (instance : List ℤ) (ppem : ℕ) (how : Fit)
+by-fit : (m : Metrics) (tables : Glyf) (programs : ProgramTables) (instance : Option FaceInstance) (ppem : ℕ) (how : Fit)
     (s : Fitter)
     → fitter_of m tables programs instance ppem how ≡ Ok s → s.grid ≡ grid_of how
 unfolding fitter_of

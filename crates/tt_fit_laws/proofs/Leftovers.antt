@@ -7,6 +7,7 @@ use Rattle.tt_core.specs.declared.fault.Why.TheVariants as why
 use Rattle.tt_core.specs.Limits.{component_limit, work_limit}
 use Rattle.tt_core.specs.Outcomes.{◌>>=◌}
 use Rattle.tt_exec.specs.Work.{Worked, enough}
+use Rattle.tt_face.specs.Faces.{FaceInstance}
 use Rattle.tt_face.specs.Programs.{ProgramTables}
 use Rattle.tt_glyf.specs.Bytes.{GlyphBytes, short}
 use Rattle.tt_glyf.specs.Defects.{written_points, record_place, IsFallingEnd, IsBadRun, IsFlagDefect, IsCoordinateDefect, IsSimpleDefect, IsBadRecord, IsRecordsDefect, IsCompositeDefect, IsBadGlyph, IsGlyphDefect}
@@ -201,7 +202,7 @@ off-refused s g f was =
 of-fitter : (t s : Fitter) → ◌≡◌ {A = Result Fitter Fault} (Ok t) (Ok s) → s.fallback ≡ t.fallback
 of-fitter t s is = let same : t ≡ s = cc in ap (λ (x : Fitter). x.fallback) (sym same)
 
-fallback-of : (m : Metrics) (tables : Glyf) (programs : ProgramTables) (instance : List ℤ) (ppem : ℕ) (s : Fitter)
+fallback-of : (m : Metrics) (tables : Glyf) (programs : ProgramTables) (instance : Option FaceInstance) (ppem : ℕ) (s : Fitter)
     → fitter_of m tables programs instance ppem fit.Best ≡ Ok s
     → s.fallback ≡
     (within_work (work_at m programs instance ppem fit.Best) (left_at m programs instance ppem fit.Best)).fallback
@@ -212,7 +213,7 @@ falls-back : (worked : Worked) (left : Result Hinting Fault) (rest : Option ℕ)
     → (within_work worked left).fallback ≡ where_refused
 falls-back worked left rest pays is = rw (pays, is) refl
 
-nothing-spent : (m : Metrics) (programs : ProgramTables) (instance : List ℤ) (ppem : ℕ) → AreEmpty programs
+nothing-spent : (m : Metrics) (programs : ProgramTables) (instance : Option FaceInstance) (ppem : ℕ) → AreEmpty programs
     → work_at m programs instance ppem fit.Best ≡ enough (Some work_limit)
 nothing-spent m programs instance ppem are = rw (are.fpgm, are.prep) refl
 

@@ -19,6 +19,7 @@ use Rattle.tt_fit.specs.Fitting.{Fitter, size_of, start}
 use Rattle.tt_fit_hinting.specs.GlyphZone.{untouched, outline_point, phantom_zone, glyph_zone}
 use Rattle.tt_fit.specs.Laws.{IsScaledBy, OriginalsAreScaled, OthersMeasureInPixels}
 use Rattle.tt_fit_outline.specs.Outline.{Outline, PhantomPoints}
+use Rattle.tt_face.specs.Faces.{FaceInstance}
 use Rattle.tt_face.specs.Programs.{ProgramTables}
 use Rattle.tt_fit.specs.Preparation.{prepared, fitter_of}
 use Rattle.tt_fit.specs.Rules.{rules_of}
@@ -124,7 +125,7 @@ in-pixels fit.Best other = absurd (other refl)
 scaling-of : (t s : Fitter) → ◌≡◌ {A = Result Fitter Fault} (Ok t) (Ok s) → s.scaling ≡ t.scaling
 scaling-of t s is = let same : t ≡ s = cc in ap (λ (x : Fitter). x.scaling) (sym same)
 
-scales : (m : Metrics) (tables : Glyf) (programs : ProgramTables) (instance : List ℤ) (ppem : ℕ) (how : Fit)
+scales : (m : Metrics) (tables : Glyf) (programs : ProgramTables) (instance : Option FaceInstance) (ppem : ℕ) (how : Fit)
     (s : Fitter)
     → fitter_of m tables programs instance ppem how ≡ Ok s → s.scaling ≡ (rules_of how).scaling
 unfolding fitter_of

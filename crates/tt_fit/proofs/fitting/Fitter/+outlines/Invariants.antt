@@ -6,13 +6,16 @@ use Rattle.tt_fit.specs.Work.{joined_work}
 use Rattle.tt_fit.proofs.fitting.Fitter.+outlines.Given as goal
 
 abbrev pub decreases-added : goal.decreases-added
-decreases-added l = 3 * l.levels
+decreases-added l = 4 * l.levels
 
 abbrev pub decreases-joined : goal.decreases-joined
-decreases-joined l = 3 * l.levels + 1
+decreases-joined l = 4 * l.levels + 1
+
+abbrev pub decreases-finished : goal.decreases-finished
+decreases-finished l = 4 * l.levels + 2
 
 abbrev pub decreases-outline : goal.decreases-outline
-decreases-outline l = 3 * l.levels + 2
+decreases-outline l = 4 * l.levels + 3
 
 abbrev pub invariant-joined-loop-part : goal.invariant-joined-loop-part
 invariant-joined-loop-part l = record {

@@ -1,5 +1,4 @@
 use Rattle.tt_face.specs.Programs.{program_tables}
-use Rattle.tt_fit_hinting.specs.state.Instances.{instance_of}
 use Rattle.tt_fit.proofs.Unbounded.{of-left, never-spent, prepared-falling}
 use Rattle.tt_fit.proofs.programs.ProgramsAtSize.prepared.Goals as goal
 
@@ -8,7 +7,7 @@ unbounded-requires c =
     let sized = c.args.self.now in
     let tables = program_tables sized.programs in
     never-spent c.in-Err.refusal _ _
-    (of-left sized.metrics.now tables (instance_of sized.instance) sized.ppem sized.fit)
+    (of-left sized.metrics.now tables sized.instance.now sized.ppem sized.fit)
     (rw c.unbounded-work.ensures at c.in-Err.ensures.work)
 
 pub returns-in-Fallback : goal.returns-in-Fallback
@@ -16,6 +15,6 @@ returns-in-Fallback c =
     let sized = c.args.self.now in
     record {
       exact = rw (prepared-falling sized.metrics.now (program_tables sized.programs)
-          (instance_of sized.instance) sized.ppem sized.fit c.in-Fallback.is)
+          sized.instance.now sized.ppem sized.fit c.in-Fallback.is)
           c.with_fallback.ensures.exact;
     }
