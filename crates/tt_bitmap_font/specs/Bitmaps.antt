@@ -1,6 +1,7 @@
 -- No part of a standard: the bitmaps of a file's characters, and the limits of a file (profile).
 use Rattle.std.specs.Prelude.{◌≡◌, refl, ℕ, ◌+◌, ◌≤◌, Bool, true, false, ◌||◌, nat_lt, ◌==◌, if◌then◌else◌, pos, List, [], ◌∷◌, ◌++◌, map, zip, codes, Option, Some, None, Result, Ok, Err}
 use Rattle.std.specs.List.{list_any}
+use Rattle.tt_advances.specs.Found.{units_of}
 use Rattle.tt_bdf.specs.Bitmap.{bitmap_bytes}
 use Rattle.tt_bdf.specs.declared.character.BdfCharacter.{BdfCharacter}
 use Rattle.tt_bdf.specs.Extent.{IsLimited}
@@ -13,7 +14,6 @@ use Rattle.tt_glyphs.specs.declared.told.GlyphEntry.{GlyphEntry}
 use Rattle.tt_glyphs.specs.declared.told.Told.{Told}
 use Rattle.tt_glyphs.specs.declared.told.Told.TheVariants as told
 use Rattle.tt_glyphs.specs.Requests.{Bitmaps}
-use Rattle.tt_metrics.specs.Metrics.{advance_of}
 use Rattle.tt_strike.specs.picture.declared.report.Unfitted.{Unfitted}
 use Rattle.tt_bitmap_font.specs.Characters.{glyph_for}
 
@@ -50,7 +50,7 @@ character_told code units at t =
     record { code = code; units = units; advance = 0; left = pos 0; top = pos 0; width = 0; height = 0; at = 0 }
 
 abbrev pub character_by : Face → ℕ → GlyphEntry → BdfCharacter
-character_by face code e = character_told code (advance_of face.metrics (glyph_for face.cmap code)) e.at e.told
+character_by face code e = character_told code (units_of face (glyph_for face.cmap code)) e.at e.told
 
 -- the characters of a file, each with the entry of its glyph
 abbrev pub characters_by : Face → List ℕ → List GlyphEntry → List BdfCharacter

@@ -10,6 +10,7 @@ ghost use Rattle.tt_glyphs.specs.Defects.{EntryFits};
 use crate::characters::glyph_for;
 use crate::facts::face_facts;
 use std::alloc::{AllocError, Global};
+use tt_advances::units_of;
 use tt_bdf::{BdfCharacter, bdf_file};
 use tt_core::Fault;
 use tt_face::Face;
@@ -52,13 +53,18 @@ fn character_told(code: char, units: u16, at: usize, told: Told) -> BdfCharacter
     }
 }
 
-/// A character with the entry of its glyph.
-fn character_by(face: &Face, code: char, entry: &GlyphEntry) -> BdfCharacter
-    ensures { result ≡ character_by face.now code entry.now }
+/// A character with the entry of its glyph, and the advance of the face at its instance. Error: memory ran out.
+fn character_by(
+    alloc: Global,
+    face: &Face,
+    code: char,
+    entry: &GlyphEntry,
+) -> Result<BdfCharacter, AllocError>
+    ensures { IfOk result (λ c. c ≡ character_by face.now code entry.now) }
 {
     let glyph = glyph_for(face.cmap(), code);
-    let units = face.metrics().advance(glyph);
-    character_told(code, units, entry.at as usize, entry.told)
+    let units = units_of(alloc, face, glyph)?;
+    Ok(character_told(code, units, entry.at as usize, entry.told))
 }
 
 /// The characters of a file, each with the entry of its glyph. Error: memory ran out.
@@ -72,7 +78,7 @@ fn characters_by(
 {
     let mut made = Vec::new(alloc);
     for (code, entry) in characters.iter().zip(entries) {
-        made.push(character_by(face, *code, entry))?;
+        made.push(character_by(alloc, face, *code, entry)?)?;
     }
     Ok(made)
 }

@@ -106,7 +106,7 @@ request_refused face a j was = elim (was-err (size_tested a.ppem) _ j was) [
 points_refused : (face : Face) (a : GlyphJob) (s : Fitter) (j : JobFault) → setting face a.ppem a.fit ≡ Ok s
     → points_of_list_tested a.fit s (known s a.glyphs) ≡ Err j → IsListRefusal face a j
 points_refused face a s j made was =
-    let parts = too_much a.fit point_work_limit (points_in s (known s a.glyphs)) j was in
+    let parts = asked_much a.fit s (known s a.glyphs) j was in
     rw parts.0 (parts.1, rw made (inl parts.2))
 
 fitter_refused : (face : Face) (a : GlyphJob) (j : JobFault) → fitter_for_request face a ≡ Err (job j) → IsListRefusal face a j

@@ -4,15 +4,15 @@ use Rattle.tt_core.specs.declared.fault.JobFault.{JobFault}
 use Rattle.tt_core.specs.declared.fault.JobFault.TheVariants as fault
 use Rattle.tt_core.specs.Directory.{HasNo}
 use Rattle.tt_core.specs.Faults.{Fault}
-use Rattle.tt_core.specs.Limits.{point_work_limit, size_limit, text_limit}
+use Rattle.tt_core.specs.Limits.{size_limit, text_limit}
 use Rattle.tt_face.specs.Faces.{Face}
 use Rattle.tt_fit.specs.Defects.{IsOutlineDefect}
 use Rattle.tt_fit.specs.Fitting.{Fitter}
 use Rattle.tt_metrics.specs.Metrics.{glyphs_of}
-use Rattle.tt_strike.specs.Defects.{IsLineDefect}
+use Rattle.tt_strike.specs.Defects.{AsksTooMuch, IsMadeDefect}
 use Rattle.tt_strike.specs.Makers.{job_at}
 use Rattle.tt_strike.specs.Picture.{setting}
-use Rattle.tt_strike.specs.Work.{chord_limit, chords_in, crossings_allowed, is_bounded, line_fitter, points_in, work_left}
+use Rattle.tt_strike.specs.Work.{chord_limit, chords_in, crossings_allowed, is_bounded, line_fitter, work_left}
 use Rattle.tt_glyphs.specs.declared.told.GlyphEntry.{GlyphEntry}
 use Rattle.tt_glyphs.specs.declared.told.Told.{Told}
 use Rattle.tt_glyphs.specs.declared.told.Told.TheVariants as told
@@ -43,16 +43,16 @@ AreSound count entries = All (λ (e : GlyphEntry). IsSoundReport count e.glyph e
 
 -- a defect of the fitter's tables and programs, or of a glyph of a list
 abbrev pub IsListDefect : Face → GlyphJob → Fault → Type 0
-IsListDefect face a fault = IsLineDefect face (job_at a.ppem a.fit) (known_of (glyphs_of face.metrics) a.glyphs) fault
+IsListDefect face a fault = IsMadeDefect face (job_at a.ppem a.fit) (known_of (glyphs_of face.metrics) a.glyphs) fault
 
 -- an entry's bitmap is not too large, and its rows lie among all rows
 pub record EntryFits (wanted : ℕ) (e : GlyphEntry) : Type 0 where
   pub told : ToldFits e.told
   pub within : e.at + told_bytes e.told ≤ wanted
 
--- the glyphs of a list have too many points, chords or crossings
+-- the glyphs of a list have too many points, deltas, chords or crossings
 abbrev pub ExceedsWork : Fitter → List ℕ → Type 0
-ExceedsWork s gs = (point_work_limit < points_in s gs) ⊎ (chord_limit < chords_in s gs)
+ExceedsWork s gs = AsksTooMuch s gs ⊎ (chord_limit < chords_in s gs)
     ⊎ (crossings_allowed (work_left s gs) < crossings_of_list s gs)
 
 -- the fact that refuses a list

@@ -1,10 +1,11 @@
 -- No part of the standard: a glyph that is drawn, whose rows are made of its bitmap, or of its edges and dropouts.
-use Rattle.std.specs.Prelude.{◌≡◌, ℕ, ◌+◌, ◌*◌, ◌^◌, ◌<◌, ◌≤◌, Bool, ◌&&◌, ◌||◌, ℤ, pos, ◌+ℤ◌, ◌-ℤ◌, ◌≤ℤ◌, ◌<ℤ◌, unsigned_abs, List, [], length, Option, Some, None}
+use Rattle.std.specs.Prelude.{◌≡◌, ℕ, ◌+◌, ◌*◌, ◌^◌, ◌<◌, ◌≤◌, Bool, ◌&&◌, ◌||◌, ℤ, pos, ◌+ℤ◌, ◌-ℤ◌, ◌≤ℤ◌, ◌<ℤ◌, unsigned_abs, List, [], length, Option, Some, None, Ok}
 use Rattle.std.specs.Ordering.{int_eq}
 use Rattle.tt_core.specs.Bits.{stride}
 use Rattle.tt_core.specs.Limits.{height_limit, width_limit}
 use Rattle.tt_bitmap.specs.Bitmaps as bitmaps
 use Rattle.tt_fit.specs.declared.programs.Fit.{Fit}
+use Rattle.tt_face.specs.Faces.{glyphs_in}
 use Rattle.tt_fit.specs.Fitting.{Fitter}
 use Rattle.tt_picture.specs.declared.fitting.LineLimits.{LineLimits}
 use Rattle.tt_picture.specs.Rows.{rows}
@@ -151,3 +152,5 @@ IsLeft (Some l) chords crossings rest =
 pub record IsSourceOf (z : FitterSource) (s : Fitter) : Type 0 where
   pub metrics : s.metrics ≡ z.face.now.metrics
   pub ppem : s.ppem ≡ z.ppem
+  pub instance : s.instance ≡ z.face.now.instance
+  pub tables : glyphs_in z.face.now ≡ Ok s.tables

@@ -8,8 +8,10 @@ use Rattle.tt_core.specs.Faults.{Fault, fault_at}
 use Rattle.tt_fit.specs.declared.programs.Fit.{Fit}
 use Rattle.tt_fit.specs.Fitting.{Fitter, fitted_outline, unfitted_fault}
 use Rattle.tt_fit.specs.outline.Outline.{Outline}
-use Rattle.tt_line.specs.Layout.{advance_in_pixels}
-use Rattle.tt_metrics.specs.Metrics.{Metrics, glyphs_of}
+use Rattle.tt_advances.specs.Found.{glyph_units, or_zero, units_of}
+use Rattle.tt_face.specs.Faces.{Face}
+use Rattle.tt_line.specs.Layout.{units_in_pixels}
+use Rattle.tt_metrics.specs.Metrics.{glyphs_of}
 use Rattle.tt_picture.specs.Distinct.{distinct}
 use Rattle.tt_picture.specs.Ink.{glyph_ink}
 use Rattle.tt_picture.specs.Shapes.{shape_at}
@@ -31,13 +33,18 @@ abbrev pub told_of : Result Outline Fault → Told → Told
 told_of (Ok o) t = t
 told_of (Err fault) t = told.Broken fault
 
+-- the advance of a glyph in font units, by its fitter's tables and instance
+abbrev pub fitter_units : Fitter → ℕ → ℕ
+fitter_units s g = or_zero (glyph_units s.instance s.metrics s.tables g)
+
 -- the advance that a fit gives
 abbrev pub advance_by : Fit → Fitter → ℕ → ℕ
-advance_by how s g = if lays_after_glyphs how then glyph_step s g else advance_in_pixels s.metrics s.ppem g
+advance_by how s g = if lays_after_glyphs how then glyph_step s g else units_in_pixels s.metrics s.ppem (fitter_units s g)
 
 -- the same by the step of the glyph's outline
-abbrev pub advance_of : Metrics → ℕ → Fit → ℕ → ℕ → ℕ
-advance_of m ppem how g step = if lays_after_glyphs how then step else advance_in_pixels m ppem g
+abbrev pub advance_of : Face → ℕ → Fit → ℕ → ℕ → ℕ
+advance_of face ppem how g step =
+    if lays_after_glyphs how then step else units_in_pixels face.metrics ppem (units_of face g)
 
 -- a glyph of the font, by its fitter
 unfoldable pub glyph_told : Fit → Fitter → ℕ → Told

@@ -7,7 +7,7 @@ use Rattle.tt_core.specs.declared.collection.Reading.{Reading}
 use Rattle.tt_core.specs.declared.fault.JobFault.{JobFault}
 use Rattle.tt_core.specs.declared.fault.JobFault.TheVariants as job
 use Rattle.tt_core.specs.Faults.{Fault}
-use Rattle.tt_core.specs.Limits.{point_work_limit, text_limit}
+use Rattle.tt_core.specs.Limits.{text_limit}
 use Rattle.tt_core.specs.Outcomes.{◌>>=◌}
 use Rattle.tt_face.specs.Faces.{Face}
 use Rattle.tt_face.specs.Files.{face_by}
@@ -20,7 +20,7 @@ use Rattle.tt_scan_dropouts.specs.Counted.{edges_counted}
 use Rattle.tt_strike.specs.Job.{size_tested}
 use Rattle.tt_strike.specs.Picture.{outlines_in, setting}
 use Rattle.tt_strike.specs.Refusals.{Refused, as_font, as_job}
-use Rattle.tt_strike.specs.Work.{chords_in, edges_limited, line_fitter, points_in, work_left, work_tested}
+use Rattle.tt_strike.specs.Work.{asked_tested, chords_in, edges_limited, line_fitter, work_left}
 use Rattle.tt_glyphs.specs.declared.told.GlyphEntry.{GlyphEntry}
 use Rattle.tt_glyphs.specs.Entries.{all_rows, bytes_wanted, entries, known}
 
@@ -56,15 +56,15 @@ glyph_crossings s g = outline_crossings s g (fitted_outline s g)
 abbrev pub crossings_of_list : Fitter → List ℕ → ℕ
 crossings_of_list s gs = sum_by (λ g. glyph_crossings (line_fitter s gs g) g) (distinct gs)
 
--- a list's glyphs have few enough points
+-- a list's glyphs have few enough points and deltas
 abbrev pub points_of_list_tested : Fit → Fitter → List ℕ → Result (Unit {0}) JobFault
-points_of_list_tested how s gs = work_tested how point_work_limit (points_in s gs)
+points_of_list_tested how s gs = asked_tested how s gs
 
 -- and few enough chords and crossings for the work that remains
 abbrev pub edges_of_list_tested : Fit → Fitter → List ℕ → Result (Unit {0}) JobFault
 edges_of_list_tested how s gs = edges_limited how (work_left s gs) (chords_in s gs) (crossings_of_list s gs)
 
--- the fitter for a request, once the points of the list's glyphs are tested; or the first refusal
+-- the fitter for a request, once the points and deltas of the list's glyphs are tested; or the first refusal
 unfoldable pub fitter_for_request : Face → GlyphJob → Result Fitter Refused
 fitter_for_request face a =
     as_font (setting face a.ppem a.fit) >>= λ s.

@@ -19,8 +19,9 @@ use crate::ruled::{RuledOutline, TriedBody, TriedGlyph};
 use crate::told::{MadeBitmap, Told};
 use crate::written::{GlyphRows, rows_of};
 use std::alloc::AllocError;
+use tt_advances::units_of;
 use tt_glyph_pixels::{GlyphPixels, pixels_of};
-use tt_line::advance;
+use tt_line::units_in_pixels;
 use tt_picture::{LineLimits, has_chords_within};
 use tt_scan::Sweep;
 use tt_strike::{FitterSource, is_bounded};
@@ -60,15 +61,17 @@ fn rest_of(left: LineLimits, chords: usize, crossings: u64) -> Option<LineLimits
     })
 }
 
-/// The pixels from the pen of a glyph to the next: its own step where work is bounded, else its advance.
-fn advance_of(source: &FitterSource, number: u16, step: u32) -> u32
+/// The pixels from the pen of a glyph to the next: its own step where work is bounded, else its advance. Error: memory ran
+/// out, at an instance without HVAR alone.
+fn advance_of(source: &FitterSource, number: u16, step: u32) -> Result<u32, AllocError>
     requires { number < glyphs_of source.now.face.now.metrics }
-    ensures { result ≡ advance_of source.now.face.now.metrics source.now.ppem source.now.fit number step }
+    ensures { IfOk result (λ n. n ≡ advance_of source.now.face.now source.now.ppem source.now.fit number step) }
 {
     if is_bounded(source.fit) {
-        return step;
+        return Ok(step);
     }
-    advance(source.face.metrics(), source.ppem, number)
+    let units = units_of(source.alloc, source.face, number)?;
+    Ok(units_in_pixels(source.face.metrics(), source.ppem, units))
 }
 
 /// The report of a glyph with this place, and its rows if it has any; the glyph may have a bitmap. Error: memory ran out.
@@ -91,7 +94,7 @@ fn placed(
         return Ok(rowless(number, Told::Large));
     }
     let told = Told::Made(MadeBitmap {
-        advance: advance_of(source, number, edged.step),
+        advance: advance_of(source, number, edged.step)?,
         advance_left: edged.advance_left,
         place,
         unfitted: edged.unfitted,

@@ -144,7 +144,7 @@ impl BitmapList {
 
     /// The bitmaps of at most 4,096 glyph numbers, in the list's order. Each glyph is made once, with one fitter. A
     /// refused glyph has its fault in its entry, and the others are made. Errors, the first of: SizeRange, TextLong;
-    /// those of loca and glyf, of the programs; WorkLarge of the points, of the chords, of the crossings. Memory may
+    /// those of loca and glyf, of the programs; WorkLarge of the points, of the deltas, of the chords, of the crossings. Memory may
     /// come at any allocation.
     pub fn make(
         alloc: Global,
@@ -168,7 +168,7 @@ impl BitmapList {
     }
 
     /// As `make`, but the first glyph of the list whose outline is refused refuses the list. Its fault comes after
-    /// WorkLarge of the points, and before WorkLarge of the chords.
+    /// WorkLarge of the points and of the deltas, and before WorkLarge of the chords.
     pub fn make_sound(
         alloc: Global,
         face: &Face,

@@ -19,7 +19,7 @@ use tt_core::DrawFault;
 use tt_face::Face;
 use tt_fit::{Fit, Fitter};
 use tt_picture::Cache;
-use tt_strike::{DistinctGlyphs, FitterSource, SizedFace, charge_points, distinct, is_bounded};
+use tt_strike::{DistinctGlyphs, FitterSource, SizedFace, charge_asked, distinct, is_bounded};
 
 /// A list of numbers whose distinct glyphs are tried.
 #[derive(Drop)]
@@ -33,8 +33,8 @@ pub(crate) struct TriedList<'f, 'a> {
     pub(crate) left: Option<u64>,
 }
 
-/// Charges the points of distinct glyphs, where work is bounded. Errors: WorkLarge; Memory.
-#[tactic(auto, unfolding(tt_strike::specs::Work::work_tested))]
+/// Charges the points and the deltas of distinct glyphs, where work is bounded. Errors: WorkLarge; Memory.
+#[tactic(auto, unfolding(tt_strike::specs::Work::counts_tested, tt_strike::specs::Work::work_tested))]
 fn charge(fit: Fit, fitter: &mut Fitter, numbers: &[u16]) -> Result<(), DrawFault>
     requires known { All (λ n. n < fitter.old.tables.glyphs) numbers.now }
     requires unbounded { is_bounded fit ≡ false → fitter.old.work ≡ None }
@@ -42,14 +42,14 @@ fn charge(fit: Fit, fitter: &mut Fitter, numbers: &[u16]) -> Result<(), DrawFaul
     ensures started { OnOk result ((gs : List ℕ) → numbers.now ≡ distinct gs → fitter.new ≡ started fitter.old gs) }
 {
     if is_bounded(fit) {
-        charge_points(fit, fitter, numbers, &Cache::absent())?;
+        charge_asked(fit, fitter, numbers, &Cache::absent())?;
     }
     Ok(())
 }
 
 /// The distinct glyphs of at most 4,096 numbers, tried with one fitter in the list's order. Errors, the first of:
-/// SizeRange, TextLong; those of loca and glyf, of the programs; WorkLarge of the points. Memory may come at any
-/// allocation.
+/// SizeRange, TextLong; those of loca and glyf, of the programs; WorkLarge of the points, and of the deltas. Memory may come
+/// at any allocation.
 pub(crate) fn tried_list<'f, 'a>(
     alloc: Global,
     face: &'f Face<'a>,

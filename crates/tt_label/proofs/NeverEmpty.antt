@@ -83,8 +83,8 @@ placement_never m ppem margin how lines =
 
 outlines_never : (s : Fitter) (how : Fit) (gs : List ℕ) → outlines_tested s how gs ≢ Err (job fault.EmptyPicture)
 outlines_never s how gs =
-    chain_never (job fault.EmptyPicture) (as_job (work_tested how point_work_limit (points_in s gs))) (λ u. as_font (outlines_in s gs))
-    (job_never (work_tested how point_work_limit (points_in s gs)) (work_never how point_work_limit (points_in s gs)))
+    chain_never (job fault.EmptyPicture) (as_job (asked_tested how s gs)) (λ u. as_font (outlines_in s gs))
+    (job_never (asked_tested how s gs) (work_never how point_work_limit (points_in s gs)))
     (λ u. font_never (outlines_in s gs))
 
 steps_never : (face : Face) (a : Job) (how : Align) → label_by_steps face a how ≢ Err (job fault.EmptyPicture)

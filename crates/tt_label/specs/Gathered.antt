@@ -6,7 +6,8 @@ use Rattle.tt_face.specs.Faces.{Face}
 use Rattle.tt_fit.specs.Fitting.{Fitter}
 use Rattle.tt_label_rows.specs.Units.{all_glyphs, stepped_lines, text_units}
 use Rattle.tt_line.specs.Layout.{Placement}
-use Rattle.tt_line.specs.Steps.{step_in_pixels}
+use Rattle.tt_advances.specs.Found.{advances_tested}
+use Rattle.tt_advances.specs.Lines.{advance_step}
 use Rattle.tt_picture.specs.Glyphs.{Glyph}
 use Rattle.tt_picture.specs.Steps.{step_by}
 use Rattle.tt_rows.specs.declared.unit.RowUnit.{RowUnit}
@@ -25,11 +26,11 @@ gathered gs = record { width = 1; height = 1; rise = pos 0; glyphs = map (λ g. 
 abbrev pub units_glyphs : Face → Job → List ℕ
 units_glyphs face a = all_glyphs (text_units face.cmap a.text)
 
--- the step of a glyph with its kerning: by its own advance, by its fitter, or by that of hmtx
+-- the step of a glyph with its kerning: by its own advance, by its fitter, or by that of the face
 abbrev pub unit_step : Face → Job → Fitter → ℕ → ℤ → ℕ
 unit_step face a s =
     if lays_after_glyphs a.fit then step_by face.metrics a.ppem (advance_with s (units_glyphs face a))
-    else step_in_pixels face.metrics a.ppem
+    else advance_step face a.ppem
 
 -- the units of a text's lines, with their steps
 abbrev pub units_in : Face → Job → Fitter → List (List RowUnit)
@@ -41,9 +42,14 @@ glyphs_tested s a gs =
     if lays_after_glyphs a.fit then (outlines_tested s a.fit gs >>= λ outlines. Ok tt)
     else (line_shapes s a (gathered gs) >>= λ glyphs. Ok tt)
 
+-- the advances of some glyphs are found, where rows are laid out by them
+abbrev pub units_ready : Face → Job → List ℕ → Result (Unit {0}) Refused
+units_ready face a gs = if lays_after_glyphs a.fit then Ok tt else as_font (advances_tested face gs)
+
 -- the fitter that made the glyphs of a text, or the first refusal
 abbrev pub units_made : Face → Job → Result Fitter Refused
 units_made face a =
+    units_ready face a (units_glyphs face a) >>= λ u.
     as_font (setting_in face a) >>= λ s.
     glyphs_tested s a (units_glyphs face a) >>= λ u.
     Ok s

@@ -11,7 +11,7 @@ use Rattle.tt_fit.specs.Fitting.{Fitter}
 use Rattle.tt_line.specs.declared.align.Align.{Align}
 use Rattle.tt_line.specs.Labels.{label_lines, label_placement}
 use Rattle.tt_line.specs.Layout.{Placement, text_glyphs}
-use Rattle.tt_line.specs.Steps.{step_in_pixels, stepped}
+use Rattle.tt_line.specs.Steps.{stepped}
 use Rattle.tt_metrics.specs.Metrics.{Metrics}
 use Rattle.tt_picture.specs.declared.ink_box.InkBox.{InkBox}
 use Rattle.tt_picture.specs.declared.report.Unfitted.{Unfitted}
@@ -20,6 +20,8 @@ use Rattle.tt_picture.specs.Pictures.{Image, image}
 use Rattle.tt_picture.specs.Lines.{is_shown}
 use Rattle.tt_picture.specs.Shapes.{glyph_shape}
 use Rattle.tt_picture.specs.Steps.{step_by}
+use Rattle.tt_advances.specs.Found.{advances_tested}
+use Rattle.tt_advances.specs.Lines.{advance_step}
 use Rattle.tt_bitmap.specs.declared.ink.LeastBox.{LeastBox}
 use Rattle.tt_strike.specs.Costs.{line_cost}
 use Rattle.tt_strike.specs.Grown.{grown}
@@ -47,10 +49,12 @@ joint (line ∷ lines) = record line { glyphs = flat_map (λ l. l.glyphs) (line 
 abbrev pub joint_numbers : List Placement → List ℕ
 joint_numbers lines = map (λ g. g.0) (joint lines).glyphs
 
--- the lines of a text, laid out by their advances
+-- the lines of a text, laid out by the advances of their glyphs, which are found first
 abbrev pub label_by_advances : Face → Job → Align → Result (List Placement) Refused
-label_by_advances face a how = as_job (label_placement face.metrics a.ppem a.margin how
-    (stepped_lines face.metrics (step_in_pixels face.metrics a.ppem) face.cmap a.text))
+label_by_advances face a how =
+    as_font (advances_tested face (label_glyphs face.cmap a.text)) >>= λ u.
+    as_job (label_placement face.metrics a.ppem a.margin how
+    (stepped_lines face.metrics (advance_step face a.ppem) face.cmap a.text))
 
 -- the same by the steps of their glyphs, which are made first
 abbrev pub label_by_steps : Face → Job → Align → Result (List Placement) Refused

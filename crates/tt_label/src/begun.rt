@@ -21,10 +21,11 @@ ghost use Rattle.tt_strike.specs.Refusals.{refusal};
 ghost use Rattle.tt_strike.specs.Strikes.{IsCacheOf, job_by};
 ghost use Rattle.tt_strike.specs.Work.{is_bounded};
 
+use crate::finding::row_units;
 use crate::gathering::fitted_lines;
 use std::alloc::{AllocError, Global};
 use tt_core::DrawFault;
-use tt_label_rows::{all_glyphs, stepped_lines, text_units};
+use tt_label_rows::{all_glyphs, text_units};
 use tt_line::Line;
 use tt_picture::{Cache, Glyphs};
 use tt_rows::RowUnit;
@@ -82,8 +83,8 @@ fn gathered_line(glyphs: Vec<(u16, u32)>, margin: u32) -> Laid
 }
 
 /// The units of a text, by the steps of its glyphs, which are fitted; only where work is bounded. Errors, the first of:
-/// those of loca and glyf, of the programs; WorkLarge of the points; those of the glyphs in the order of the text. Memory
-/// may come at any allocation.
+/// those of loca and glyf, of the programs; WorkLarge of the points, and of the deltas; those of the glyphs in the order of
+/// the text. Memory may come at any allocation.
 fn begin_by_steps(
     sized: &mut SizedFace,
     text: &str,
@@ -112,8 +113,9 @@ fn begin_by_steps(
     })
 }
 
-/// The units of a text, by advances, and its glyphs; only where work is not bounded. Errors, the first of: those of loca
-/// and glyf, of the programs; those of the glyphs in the order of the text. Memory may come at any allocation.
+/// The units of a text, by advances, and its glyphs; only where work is not bounded. Errors, the first of: those of the
+/// advances, at an instance without HVAR alone; those of loca and glyf, of the programs; those of the glyphs in the order of
+/// the text. Memory may come at any allocation.
 fn begin_by_advances(
     sized: &mut SizedFace,
     text: &str,
@@ -133,9 +135,8 @@ fn begin_by_advances(
     ensures same { sized.new ≡ sized.old }
 {
     let source = sized.source;
-    let metrics = source.face.metrics();
     let units = unstepped_units(sized, text)?;
-    let lines = stepped_lines(source.alloc, metrics, source.ppem, &units)?;
+    let lines = row_units(&source, &units)?;
     let gathered = gathered_line(all_glyphs(source.alloc, &units)?, margin);
     let glyphs = sized.tested_glyphs(&gathered, cache)?;
     Ok(BegunLabel {

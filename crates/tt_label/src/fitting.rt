@@ -13,7 +13,7 @@ ghost use Rattle.tt_picture.specs.Distinct.{is_among};
 ghost use Rattle.tt_picture.specs.Fitted.{AreAdvances, fitted_numbers};
 ghost use Rattle.tt_picture.specs.Glyphs.{ArePlaces};
 ghost use Rattle.tt_picture.specs.Steps.{step_by};
-ghost use Rattle.tt_strike.specs.Defects.{IsLineDefect, TellsDefects};
+ghost use Rattle.tt_strike.specs.Defects.{IsMadeDefect, TellsDefects};
 ghost use Rattle.tt_strike.specs.Fitted.{AreFittedUnits, HasFittedUnits, outlines_made};
 ghost use Rattle.tt_strike.specs.Makers.{job_at};
 ghost use Rattle.tt_strike.specs.Picture.{advance_with};
@@ -111,7 +111,7 @@ fn fit_lines(
     ensures fitted { IfOk result (HasFittedUnits sized.old.face sized.old.ppem sized.old.fit (glyphs_in (map (λ l. l.items) lines.now))) }
     ensures room { IfOk result (λ t. length t.places.items ≡ glyphs_of sized.old.face.metrics) }
     ensures stops { IfTold refusal result (λ r. outlines_made sized.old.face sized.old.ppem sized.old.fit (glyphs_in (map (λ l. l.items) lines.now)) ≡ Err r) }
-    ensures defects { TellsDefects draw_font_fault (IsLineDefect sized.old.face (job_at sized.old.ppem sized.old.fit) (glyphs_in (map (λ l. l.items) lines.now))) result }
+    ensures defects { TellsDefects draw_font_fault (IsMadeDefect sized.old.face (job_at sized.old.ppem sized.old.fit) (glyphs_in (map (λ l. l.items) lines.now))) result }
     ensures same { sized.new ≡ sized.old }
 {
     if lines.len() == 1 {
@@ -137,7 +137,7 @@ pub(crate) fn fitted_label(
     ensures some { IfOk result (λ t. 1 ≤ length t.steps.items) }
     ensures count { IfOk result (λ t. length t.steps.items ≤ text_limit) }
     ensures stops { IfTold refusal result (λ r. outlines_made sized.old.face sized.old.ppem sized.old.fit (label_glyphs sized.old.face.cmap text.now) ≡ Err r) }
-    ensures defects { TellsDefects draw_font_fault (IsLineDefect sized.old.face (job_at sized.old.ppem sized.old.fit) (label_glyphs sized.old.face.cmap text.now)) result }
+    ensures defects { TellsDefects draw_font_fault (IsMadeDefect sized.old.face (job_at sized.old.ppem sized.old.fit) (label_glyphs sized.old.face.cmap text.now)) result }
     ensures same { sized.new ≡ sized.old }
 {
     let alloc = sized.alloc();

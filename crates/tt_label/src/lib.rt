@@ -2,6 +2,7 @@
 //!
 //! ```text
 //! joining.rt  the glyphs of several lines as those of one line
+//! finding.rt  the steps of lines by advances, which the glyphs' data give at an instance without HVAR
 //! fitting.rt  the lines of a text, whose glyphs are fitted, and their steps
 //! gathering.rt  the units of a text that is broken into rows, with the steps of their glyphs
 //! begun.rt    these units and glyphs, made once for all rows
@@ -15,6 +16,7 @@
 #![tactic(auto)]
 
 mod begun;
+mod finding;
 mod fitting;
 mod gathering;
 mod growing;

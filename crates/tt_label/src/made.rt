@@ -1,6 +1,7 @@
 //! The lines of a label with their glyphs, which are made once for all lines.
 
 ghost use Rattle.std.specs.Prelude.{◌≡◌, ◌≤◌, true, false, length, map, chars, All, Ok, Err, IfOk};
+ghost use Rattle.tt_advances.specs.Defects.{IsAdvanceDefect};
 ghost use Rattle.tt_core.specs.Limits.{margin_limit, text_limit};
 ghost use Rattle.tt_core.specs.Outcomes.{GivesUnless, IfTold, draw_font_fault};
 ghost use Rattle.tt_label.specs.Label.{label_glyphs, label_placed};
@@ -14,7 +15,8 @@ ghost use Rattle.tt_strike.specs.Refusals.{refusal};
 ghost use Rattle.tt_strike.specs.Strikes.{IsCacheOf, job_by};
 ghost use Rattle.tt_strike.specs.Work.{is_bounded};
 
-use crate::fitting::{FittedLabel, fitted_label, label_advances};
+use crate::finding::label_units;
+use crate::fitting::{FittedLabel, fitted_label};
 use crate::joining::{joint_line, joint_of};
 use std::alloc::{AllocError, Global};
 use tt_core::DrawFault;
@@ -43,8 +45,8 @@ pub fn with_margin(alloc: Global, lines: Vec<Line>, margin: u32) -> Result<Vec<L
 }
 
 /// The lines of a text, laid out by the steps of their glyphs, which are made first; only where work is bounded. Errors,
-/// the first of: those of loca and glyf, of the programs; WorkLarge of the points; those of the glyphs in the order of
-/// the text; PictureLarge; WorkLarge of the chords, and of the crossings. Memory may come at any allocation.
+/// the first of: those of loca and glyf, of the programs; WorkLarge of the points, and of the deltas; those of the glyphs in
+/// the order of the text; PictureLarge; WorkLarge of the chords, and of the crossings. Memory may come at any allocation.
 fn make_by_steps(
     sized: &mut SizedFace,
     text: &str,
@@ -76,7 +78,8 @@ fn make_by_steps(
     Ok(MadeLabel { lines, glyphs })
 }
 
-/// The lines of a text, laid out by advances; only where work is not bounded. Errors: PictureLarge, Memory.
+/// The lines of a text, laid out by advances; only where work is not bounded. Errors, the first of: those of the advances,
+/// at an instance without HVAR alone; PictureLarge. Memory may come at any allocation.
 fn lay_label(
     sized: &mut SizedFace,
     text: &str,
@@ -89,19 +92,20 @@ fn lay_label(
     requires text { length (chars text.now) ≤ text_limit }
     ensures exact { GivesUnless refusal (λ v. placements_of v.items) result (label_placed sized.old.face (job_by sized.old text.now margin) align) }
     ensures laid { IfOk result (λ v. AreLaid sized.old.face margin v.items) }
+    ensures defects { TellsDefects draw_font_fault (IsAdvanceDefect sized.old.face (label_glyphs sized.old.face.cmap text.now)) result }
     ensures same { sized.new ≡ sized.old }
 {
     let alloc = sized.alloc();
     let face = sized.face();
     let ppem = sized.ppem();
-    let steps = label_advances(sized, text)?;
+    let steps = label_units(sized, text)?;
     let laid = lay_lines(alloc, face.metrics(), steps, ppem, margin, align)?;
     Ok(with_margin(alloc, laid, margin)?)
 }
 
 /// The lines of a text, laid out by advances, and then their glyphs; only where work is not bounded. Errors, the first of:
-/// PictureLarge; those of loca and glyf, of the programs; those of the glyphs in the order of the text. Memory may come
-/// at any allocation.
+/// those of the advances, at an instance without HVAR alone; PictureLarge; those of loca and glyf, of the programs; those of
+/// the glyphs in the order of the text. Memory may come at any allocation.
 fn make_by_advances(
     sized: &mut SizedFace,
     text: &str,

@@ -24,5 +24,5 @@ pub use heights::{RowHeights, row_heights};
 pub use laying::lay_rows;
 pub use picture::{RowsPicture, box_picture, first_rise, is_low, width_picture};
 pub use rows::{TextRows, text_rows, widest};
-pub use steps::stepped_lines;
+pub use steps::{stepped_lines, unit_row};
 pub use units::text_units;

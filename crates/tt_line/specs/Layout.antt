@@ -21,9 +21,13 @@ use Rattle.tt_metrics.specs.Metrics.{Metrics, units_per_em_of, ascent_of, descen
 abbrev pub ceiling_quotient : ℤ → ℤ → ℤ
 ceiling_quotient n d = neg_ℤ (int_div_euclid (neg_ℤ n) d)
 
--- the advance of a glyph in pixels, at a size in pixels per em; rounded to the nearest pixel, a half upwards
+-- an advance in font units in pixels, at a size in pixels per em; rounded to the nearest pixel, a half upwards
+abbrev pub units_in_pixels : Metrics → ℕ → ℕ → ℕ
+units_in_pixels m ppem units = unsigned_abs (rounded_quotient (pos (units * ppem)) (pos (units_per_em_of m)))
+
+-- the advance of a glyph in pixels
 abbrev pub advance_in_pixels : Metrics → ℕ → ℕ → ℕ
-advance_in_pixels m ppem g = unsigned_abs (rounded_quotient (pos (advance_of m g * ppem)) (pos (units_per_em_of m)))
+advance_in_pixels m ppem g = units_in_pixels m ppem (advance_of m g)
 
 -- n / d as rows of a picture (profile)
 abbrev pub in_rows : Heights → ℤ → ℤ → ℤ

@@ -1,6 +1,6 @@
 -- The steps of a line's glyphs: the pixels from one pen to the next. The step of a glyph has its kerning with the next
 -- glyph; both are rounded once, together (profile). Apple TrueType Reference Manual, "The 'hmtx' table".
-use Rattle.std.specs.Prelude.{◌≡◌, refl, ℕ, if◌then◌else◌, ℤ, pos, negsuc, ◌+ℤ◌, ◌*ℤ◌, int_lt, unsigned_abs, List, [], ◌∷◌, ◌++◌, map, Some, None}
+use Rattle.std.specs.Prelude.{◌≡◌, refl, ℕ, ◌==◌, if◌then◌else◌, ℤ, pos, negsuc, ◌+ℤ◌, ◌*ℤ◌, int_lt, unsigned_abs, List, [], ◌∷◌, ◌++◌, map, Some, None}
 use Rattle.tt_core.specs.Numbers.{rounded_quotient}
 use Rattle.tt_kern.specs.Feature.{feature_of}
 use Rattle.tt_kern.specs.Halves.{reached_within}
@@ -15,11 +15,15 @@ use Rattle.tt_metrics.specs.Metrics.{Metrics, advance_of, kerning_of, units_per_
 abbrev pub at_least : ℕ → ℤ → ℕ
 at_least low n = if int_lt n (pos low) then low else unsigned_abs n
 
--- the step of a glyph by its kerning in font units, at a size in pixels per em: their sum rounded to the nearest pixel, a
--- half upwards; no step is negative (profile)
+-- the step of an advance and its kerning, both in font units, at a size in pixels per em: their sum rounded to the nearest
+-- pixel, a half upwards; no step is negative (profile)
+abbrev pub step_of_units : Metrics → ℕ → ℕ → ℤ → ℕ
+step_of_units m ppem units kerning =
+    at_least 0 (rounded_quotient ((pos units +ℤ kerning) *ℤ pos ppem) (pos (units_per_em_of m)))
+
+-- the step of a glyph by its advance and its kerning
 abbrev pub step_in_pixels : Metrics → ℕ → ℕ → ℤ → ℕ
-step_in_pixels m ppem g kerning =
-    at_least 0 (rounded_quotient ((pos (advance_of m g) +ℤ kerning) *ℤ pos ppem) (pos (units_per_em_of m)))
+step_in_pixels m ppem g kerning = step_of_units m ppem (advance_of m g) kerning
 
 -- the kerning of a glyph before some others, in font units; the last glyph has none
 abbrev pub kerning_before : Metrics → ℕ → List ℕ → ℤ
@@ -30,6 +34,10 @@ kerning_before m g (h ∷ hs) = kerning_of m g h
 abbrev pub stepped : Metrics → (ℕ → ℤ → ℕ) → List ℕ → List (ℕ × ℕ)
 stepped m step [] = []
 stepped m step (g ∷ gs) = (g, step g (kerning_before m g gs)) ∷ stepped m step gs
+
+-- the step of a glyph by any advances in font units
+abbrev pub step_by_units : Metrics → ℕ → (ℕ → ℕ) → ℕ → ℤ → ℕ
+step_by_units m ppem units g kerning = step_of_units m ppem (units g) kerning
 
 -- the glyphs of a line with their steps by the advances of hmtx
 abbrev pub linear_line : Metrics → ℕ → List ℕ → List (ℕ × ℕ)
@@ -71,6 +79,16 @@ by_kerning : map (step_in_pixels unkerned 16 1) (pos 0 ∷ negsuc 63 ∷ negsuc 
     ≡ 4 ∷ 3 ∷ 4 ∷ 3 ∷ 0 ∷ 0 ∷ 5 ∷ []
 unfolding unkerned
 by_kerning = refl
+
+-- other advances than those of hmtx: 1.5 pixels, and 24 units less; and where glyph 1 is 320 wide, but glyph 2 has none
+by_other_units : map (step_of_units unkerned 16 96) (pos 0 ∷ negsuc 23 ∷ []) ≡ 2 ∷ 1 ∷ []
+unfolding unkerned
+by_other_units = refl
+
+other_advances : stepped (kerned 0xFF 0xC0) (step_by_units (kerned 0xFF 0xC0) 16 (λ g. if g == 1 then 320 else 0)) (1 ∷ 1 ∷ 2 ∷ [])
+    ≡ (1, 4) ∷ (1, 6) ∷ (2, 0) ∷ []
+unfolding unkerned kerned pair word long feature_of kern_sum reached_within
+other_advances = refl
 
 -- without kerning
 no_pair : linear_steps unkerned 16 (1 ∷ 1 ∷ []) ≡ 4 ∷ 4 ∷ []

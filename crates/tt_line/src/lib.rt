@@ -21,6 +21,6 @@ pub use layout::lay;
 pub use line::Line;
 pub use lines::{label_steps, lay_lines, unmarked};
 pub use measured::{LineSize, size_by_advances, size_by_steps};
-pub use pixels::{advance, depth, rise, step};
-pub use steps::{advance_steps, kerning_at, lay_steps, unit_advances};
+pub use pixels::{advance, depth, rise, step, step_of_units, units_in_pixels};
+pub use steps::{advance_steps, kerning_at, lay_steps, put_unit_steps, unit_advances};
 pub use tt_core::DrawFault as LineFault;

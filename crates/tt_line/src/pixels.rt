@@ -3,8 +3,8 @@
 ghost use Rattle.std.specs.Prelude.{◌≡◌, ℕ, ◌+◌, ◌*◌, ◌<◌, ◌≤◌, ◌^◌, ◌+ℤ◌, ◌*ℤ◌, ◌≤ℤ◌, pos, unsigned_abs};
 ghost use Rattle.tt_core.specs.Limits.{size_limit};
 ghost use Rattle.tt_core.specs.Numbers.{rounded_quotient};
-ghost use Rattle.tt_line.specs.Layout.{ceiling_quotient, advance_in_pixels, depth_of, in_rows, rise_of};
-ghost use Rattle.tt_line.specs.Steps.{at_least, step_in_pixels};
+ghost use Rattle.tt_line.specs.Layout.{ceiling_quotient, advance_in_pixels, depth_of, in_rows, rise_of, units_in_pixels};
+ghost use Rattle.tt_line.specs.Steps.{at_least, step_in_pixels, step_of_units};
 ghost use Rattle.tt_metrics.specs.Head.{smallest_em};
 ghost use Rattle.tt_metrics.specs.Metrics.{advance_of, glyphs_of};
 
@@ -18,7 +18,16 @@ pub fn advance(metrics: &Metrics, ppem: u32, glyph: u16) -> u32
     ensures exact { result ≡ advance_in_pixels metrics.now ppem glyph }
     ensures bound { result < 2 ^ 25 }
 {
-    let units = u32::from(metrics.advance(glyph));
+    units_in_pixels(metrics, ppem, metrics.advance(glyph))
+}
+
+/// An advance in font units at `ppem` pixels per em, rounded to the nearest pixel.
+pub fn units_in_pixels(metrics: &Metrics, ppem: u32, units: u16) -> u32
+    requires size { ppem ≤ size_limit }
+    ensures exact { result ≡ units_in_pixels metrics.now ppem units }
+    ensures bound { result < 2 ^ 25 }
+{
+    let units = u32::from(units);
     rq(i64::from(units * ppem), i64::from(metrics.units_per_em())) as u32
 }
 
@@ -31,7 +40,18 @@ pub fn step(metrics: &Metrics, ppem: u32, glyph: u16, kerning: i32) -> u32
     ensures exact { result ≡ step_in_pixels metrics.now ppem glyph kerning }
     ensures bound { result < 2 ^ 25 }
 {
-    let units = i32::from(metrics.advance(glyph)) + kerning;
+    step_of_units(metrics, ppem, metrics.advance(glyph), kerning)
+}
+
+/// The pixels from a pen to the next, by an advance and a kerning in font units. Their sum is rounded once. A step is never
+/// negative.
+pub fn step_of_units(metrics: &Metrics, ppem: u32, units: u16, kerning: i32) -> u32
+    requires size { ppem ≤ size_limit }
+    requires kerning { unsigned_abs kerning ≤ 2 ^ 20 }
+    ensures exact { result ≡ step_of_units metrics.now ppem units kerning }
+    ensures bound { result < 2 ^ 25 }
+{
+    let units = i32::from(units) + kerning;
     rounded(i64::from(scaled(units, ppem)), metrics.units_per_em())
 }
 

@@ -1,17 +1,17 @@
 //! Lays out a line by the steps of its glyphs.
 
-ghost use Rattle.std.specs.Prelude.{◌≡◌, ◌+◌, ◌<◌, ◌≤◌, ◌^◌, length, map, drop, get_or, chars, sum, All, IfOk, IfErr, unsigned_abs};
+ghost use Rattle.std.specs.Prelude.{◌≡◌, ℕ, ◌+◌, ◌<◌, ◌≤◌, ◌^◌, length, map, drop, get_or, chars, sum, All, IfOk, IfErr, unsigned_abs};
 ghost use Rattle.tt_core.specs.Limits.{size_limit, margin_limit, text_limit, width_limit};
 ghost use Rattle.tt_core.specs.Outcomes.{Gives};
 ghost use Rattle.tt_line.specs.Layout.{advance_in_pixels, depth_of, extent_by, glyphs_at_pens, laid_at, placed_in, rise_of, text_glyphs, IsRefusal, IsWithinLimits};
 ghost use Rattle.tt_line.specs.Outcome.{placement_of};
-ghost use Rattle.tt_line.specs.Steps.{kerning_before, linear_line};
+ghost use Rattle.tt_line.specs.Steps.{kerning_before, linear_line, step_by_units, stepped};
 ghost use Rattle.tt_metrics.specs.Metrics.{glyphs_of};
 
 use crate::extent::{PictureExtent, test_limits, with_margins};
 use crate::known::KnownAdvances;
 use crate::line::Line;
-use crate::pixels::{depth, rise, step};
+use crate::pixels::{depth, rise, step, step_of_units};
 use std::alloc::{AllocError, Global};
 use tt_core::JobFault;
 use tt_metrics::Metrics;
@@ -67,6 +67,20 @@ fn kern(metrics: &Metrics, ppem: u32, line: &mut [(u16, u32)])
         let kerning = kerning_at(metrics, line, i);
         let glyph = line[i].0;
         line[i].1 = step(metrics, ppem, glyph, kerning);
+    }
+}
+
+/// Puts the step of each glyph in the place of its advance in font units, with its kerning.
+pub fn put_unit_steps(metrics: &Metrics, ppem: u32, line: &mut [(u16, u32)])
+    requires size { ppem ≤ size_limit }
+    requires units { All (λ p. p.1 < 2 ^ 16) line.old }
+    ensures { (units : ℕ → ℕ) → line.old ≡ map (λ g. (g, units g)) (map (λ p. p.0) line.old)
+        → line.new ≡ stepped metrics.now (step_by_units metrics.now ppem units) (map (λ p. p.0) line.old) }
+{
+    for i in 0..line.len() {
+        let kerning = kerning_at(metrics, line, i);
+        let units = line[i].1 as u16;
+        line[i].1 = step_of_units(metrics, ppem, units, kerning);
     }
 }
 

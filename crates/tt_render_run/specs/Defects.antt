@@ -2,6 +2,7 @@
 use Rattle.std.specs.Prelude.{List, ℕ, Option, Some, None, Result, Ok, Err, IfSome, Bool, true, false, ⊤}
 use Rattle.tt_core.specs.Directory.{HasNo}
 use Rattle.tt_face.specs.declared.rules.Opening.{Opening}
+use Rattle.tt_face.specs.Instance.{Asked}
 use Rattle.tt_core.specs.Faults.{Fault}
 use Rattle.tt_core.specs.declared.fault.JobFault.{JobFault}
 use Rattle.tt_strike.specs.Defects.{IsFontRefusal}
@@ -23,9 +24,9 @@ TellsDefectsOf None IsOne result = ⊤
 TellsDefectsOf (Some file) IsOne result = CallTellsDefects (IsOne file) result
 
 -- the fact that refuses a job, alone or by a reading of a font file: the font comes second
-abbrev pub IsRefusedBy : Bool → Opening → Job → Option (List ℕ) → JobFault → Type 0
-IsRefusedBy true r a left j = IfSome left (ByFace (λ face a. IsFontRefusal face a j) r a)
-IsRefusedBy false r a left j = IsTestRefusal a j
+abbrev pub IsRefusedBy : Bool → Opening → Option Asked → Job → Option (List ℕ) → JobFault → Type 0
+IsRefusedBy true r i a left j = IfSome left (ByFace (λ face a. IsFontRefusal face a j) r i a)
+IsRefusedBy false r i a left j = IsTestRefusal a j
 
-abbrev pub IsJobRefusal : Opening → Job → Option (List ℕ) → JobFault → Type 0
-IsJobRefusal r a left j = IsRefusedBy (needs_font j) r a left j
+abbrev pub IsJobRefusal : Opening → Option Asked → Job → Option (List ℕ) → JobFault → Type 0
+IsJobRefusal r i a left j = IsRefusedBy (needs_font j) r i a left j

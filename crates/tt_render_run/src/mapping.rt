@@ -1,28 +1,32 @@
 //! Writes each unit's glyph and advance as lines, by a font from a reader.
 
-ghost use Rattle.std.specs.Prelude.{◌≡◌, ◌<◌, ◌≤◌, false, length, chars, IfOk, IfSome};
-ghost use Rattle.tt_cmap.specs.Maps.{glyph_count};
+ghost use Rattle.std.specs.Prelude.{◌≡◌, ℕ, ◌<◌, ◌≤◌, ◌^◌, true, false, length, map, flat_map, chars, option_map, All, IfOk, IfSome};
+ghost use Rattle.tt_advances.specs.Defects.{IsAdvanceDefect};
+ghost use Rattle.tt_cmap.specs.Maps.{glyph_of_unit, units_by};
 ghost use Rattle.tt_core.specs.declared.fault.JobFault.TheVariants.{TextLong};
 ghost use Rattle.tt_core.specs.Limits.{font_limit, text_limit};
 ghost use Rattle.tt_core.specs.Outcomes.{FontGives, font_fault};
-ghost use Rattle.tt_face.specs.Files.{IsFaceDefectBy};
+ghost use Rattle.tt_face.specs.Faces.{finds_advances};
+ghost use Rattle.tt_face.specs.Views.{asked_view};
+ghost use Rattle.tt_line.specs.Layout.{text_glyphs};
 ghost use Rattle.tt_metrics.specs.Metrics.{glyphs_of};
 ghost use Rattle.tt_render_run.specs.Defects.{TellsDefectsOf};
-ghost use Rattle.tt_render_run.specs.MapLines.{lines_of, map_lines, map_wanted, unit_text};
+ghost use Rattle.tt_render_run.specs.MapLines.{IsMapDefect, lines_in, lines_of, map_lines, map_wanted, unit_text};
 ghost use Rattle.tt_render_run.specs.Outcome.{CallGives, IfJob, IfLarge};
 ghost use Rattle.tt_render_streams.specs.Traffic.{traffic_of};
 ghost use Rattle.tt_strike.specs.Defects.{TellsDefects};
 
 use std::alloc::{AllocError, Global};
+use tt_advances::find_units;
 use tt_cmap::{CharacterMap, KnownGlyphs, TextUnit};
 use tt_core::{FontFault, Reading, Sink, Source};
-use tt_metrics::Metrics;
+use tt_face::AskedInstance;
 use tt_pbm::{Ascii, write_all_of};
 use tt_render_streams::{RunFault, push_name, read_font};
-use tt_strike::{Face, test_text};
+use tt_strike::{Face, Opening, test_text};
 
 /// Writes a line `U+NNNN glyph advance` for each unit of the text: the code point in capital hexadecimal, the glyph's
-/// number and its advance in font units. With the wide reading a unit with a variation selector has
+/// number and its advance in font units, at the instance that is asked for. With the wide reading a unit with a variation selector has
 /// `U+NNNN U+NNNN glyph advance`. Nothing is written before all lines are made.
 ///
 /// Errors, the first of: Job (TextLong), before the font is read; Read, FontLarge; Font, in the order in which the
@@ -33,41 +37,51 @@ pub fn map<R: Source, W: Sink>(
     text: &str,
     out: &mut W,
     reading: Reading,
+    instance: Option<AskedInstance>,
 ) -> Result<(), RunFault>
     requires font { R.has_failed font.old ≡ false }
     requires out { W.has_failed out.old ≡ false }
-    ensures outcome { CallGives result (traffic_of R.left R.has_failed W.written W.has_failed font.old font.new out.old out.new) (map_wanted reading text.now) }
-    ensures defects { TellsDefectsOf (R.left font.old) (λ file. IsFaceDefectBy file reading) result }
+    ensures outcome { CallGives result (traffic_of R.left R.has_failed W.written W.has_failed font.old font.new out.old out.new) (map_wanted reading (option_map asked_view instance.entry) text.now) }
+    ensures defects { TellsDefectsOf (R.left font.old) (IsMapDefect reading (option_map asked_view instance.entry) text.now) result }
     ensures text { IfJob result (λ j. (j ≡ TextLong) × (text_limit < length (chars text.now))) }
     ensures large { IfLarge result (IfSome (R.left font.old) (λ file. font_limit < length file)) }
 {
     test_text(text)?;
     let file = read_font(alloc, font)?;
-    let lines = lines_by(alloc, &file, text, reading)?;
+    let lines = lines_by(alloc, &file, text, reading, instance)?;
     write_all_of(out, &lines)?;
     Ok(())
 }
 
-/// The lines by the tables that a reading of a font file gives.
+/// The lines by the face that a reading of a font file gives at an instance.
 #[tactic(auto, unfolding(crate::specs::MapLines::lines_of))]
-fn lines_by(alloc: Global, file: &[u8], text: &str, reading: Reading) -> Result<Vec<u8>, FontFault>
+fn lines_by(
+    alloc: Global,
+    file: &[u8],
+    text: &str,
+    reading: Reading,
+    instance: Option<AskedInstance>,
+) -> Result<Vec<u8>, FontFault>
     requires { length file.now ≤ font_limit }
-    ensures exact { FontGives (λ lines. lines.items) result (lines_of reading file.now text.now) }
-    ensures defects { TellsDefects font_fault (IsFaceDefectBy file.now reading) result }
+    ensures exact { FontGives (λ lines. lines.items) result (lines_of reading (option_map asked_view instance.entry) file.now text.now) }
+    ensures defects { TellsDefects font_fault (IsMapDefect reading (option_map asked_view instance.entry) text.now file.now) result }
 {
-    let face = Face::read(file, reading)?;
-    Ok(lines(alloc, face.metrics(), face.cmap(), text)?)
+    tt_advances::laws::found_advances_are_whole();
+    let face = Face::read_at(file, Opening::plain(reading), instance)?;
+    if face.finds_advances() {
+        return found_lines(alloc, &face, text);
+    }
+    Ok(lines(alloc, &face, text)?)
 }
 
-fn lines(
-    alloc: Global,
-    metrics: &Metrics,
-    cmap: &CharacterMap,
-    text: &str,
-) -> Result<Vec<u8>, AllocError>
-    requires { glyph_count cmap.now ≡ glyphs_of metrics.now }
-    ensures { IfOk result (λ lines. lines.items ≡ map_lines metrics.now cmap.now text.now) }
+/// The lines by the advances of the tables.
+fn lines(alloc: Global, face: &Face, text: &str) -> Result<Vec<u8>, AllocError>
+    requires { finds_advances face.now ≡ false }
+    ensures { IfOk result (λ lines. lines.items ≡ map_lines face.now text.now) }
 {
+    tt_advances::laws::tables_give_advances();
+    let metrics = face.metrics();
+    let cmap = face.cmap();
     let mut lines = Vec::new(alloc);
     let mut known = KnownGlyphs::new(cmap);
     let mut line = Ascii::new();
@@ -77,6 +91,53 @@ fn lines(
         lines.extend_from_slice(line.as_bytes())?;
     }
     Ok(lines)
+}
+
+/// The glyphs of a text's units. Error: Memory.
+fn unit_glyphs(alloc: Global, face: &Face, text: &str) -> Result<Vec<(u16, u32)>, AllocError>
+    ensures exact { IfOk result (λ v. map (λ g. g.0) v.items ≡ text_glyphs face.now.cmap text.now) }
+    ensures known { IfOk result (λ v. All (λ g. g.0 < glyphs_of face.now.metrics) v.items) }
+{
+    let cmap = face.cmap();
+    let mut glyphs = Vec::new(alloc);
+    for unit in cmap.units(text) {
+        glyphs.push((cmap.glyph_of_unit(unit), 0))?;
+    }
+    Ok(glyphs)
+}
+
+/// The lines of a text's units, by the advances of their glyphs.
+fn lines_with(
+    alloc: Global,
+    cmap: &CharacterMap,
+    text: &str,
+    line_units: &[(u16, u32)],
+) -> Result<Vec<u8>, AllocError>
+    requires { All (λ g. g.1 < 2 ^ 16) line_units.now }
+    ensures { IfOk result (λ lines. (units : ℕ → ℕ) → line_units.now ≡ map (λ g. (g, units g)) (text_glyphs cmap.now text.now)
+        → lines.items ≡ flat_map (λ u. unit_text u (glyph_of_unit cmap.now u) (units (glyph_of_unit cmap.now u))) (units_by cmap.now (chars text.now))) }
+{
+    let mut lines = Vec::new(alloc);
+    let mut line = Ascii::new();
+    for (unit, placed) in cmap.units(text).zip(line_units) {
+        let (glyph, units) = *placed;
+        make_line(&mut line, unit, glyph, units as u16);
+        lines.extend_from_slice(line.as_bytes())?;
+    }
+    Ok(lines)
+}
+
+/// The lines by the data of the glyphs; only at an instance without HVAR. Errors: those of loca and glyf; those of the
+/// first glyph that has one: of reading the glyph, GlyphVariation. Memory may come at any allocation.
+#[tactic(auto, unfolding(crate::specs::MapLines::lines_in))]
+fn found_lines(alloc: Global, face: &Face, text: &str) -> Result<Vec<u8>, FontFault>
+    requires { finds_advances face.now ≡ true }
+    ensures exact { FontGives (λ lines. lines.items) result (lines_in face.now text.now) }
+    ensures defects { TellsDefects font_fault (IsAdvanceDefect face.now (text_glyphs face.now.cmap text.now)) result }
+{
+    let mut glyphs = unit_glyphs(alloc, face, text)?;
+    find_units(alloc, face, &mut glyphs)?;
+    Ok(lines_with(alloc, face.cmap(), text, &glyphs)?)
 }
 
 /// Makes the line of a unit, from its end.

@@ -8,7 +8,6 @@ use Rattle.tt_core.specs.declared.fault.JobFault.{JobFault}
 use Rattle.tt_core.specs.declared.fault.JobFault.TheVariants as job_of
 use Rattle.tt_core.specs.declared.font_fault.FontFault.{FontFault}
 use Rattle.tt_core.specs.declared.font_fault.FontFault.TheVariants as font
-use Rattle.tt_core.specs.Limits.{point_work_limit}
 use Rattle.tt_core.specs.Outcomes.{FontGives, GivesUnless, IfTold, draw_fault_of_font, draw_font_fault, draw_job_fault}
 use Rattle.tt_face.specs.Faces.{Face}
 use Rattle.tt_fit.specs.Fitting.{Fitter}
@@ -24,17 +23,17 @@ use Rattle.tt_picture.proofs.Among.{all_among}
 use Rattle.tt_picture.proofs.Outlines.{shapes_of_line}
 use Rattle.tt_strike.specs.declared.fitting.FittedUnits.{FittedUnits}
 use Rattle.tt_strike.specs.Costs.{cost_of, line_cost}
-use Rattle.tt_strike.specs.Defects.{IsLineRefusal}
+use Rattle.tt_strike.specs.Defects.{AsksTooMuch, IsLineRefusal}
 use Rattle.tt_strike.specs.Fitted.{AreFittedUnits, outlines_made}
 use Rattle.tt_strike.specs.Job.{Job}
 use Rattle.tt_strike.specs.Made.{AreMade, shapes_made}
 use Rattle.tt_strike.specs.Picture.{edges_tested, outlines_in, outlines_tested, points_tested, setting, setting_in, shapes_in, text_placed}
 use Rattle.tt_strike.specs.Refusals.{as_font, as_job, job, refusal}
-use Rattle.tt_strike.specs.Work.{edges_limited, is_bounded, line_fitter, points_in, work_left, work_tested}
+use Rattle.tt_strike.specs.Work.{asked_tested, edges_limited, is_bounded, line_fitter, work_left}
 use Rattle.tt_strike.proofs.Costed.{costed}
 use Rattle.tt_strike.proofs.Placed.{of-font, of-job}
 use Rattle.tt_strike.proofs.Stepped.{chords_made, job_of_test, line_tells_no_defect, not_of_font}
-use Rattle.tt_strike.proofs.Stopped.{edges_tell, stops, too_much}
+use Rattle.tt_strike.proofs.Stopped.{asked_much, edges_tell, stops}
 
 -- a stop in opening the fitter, or at the outlines
 pub setting_stops_units : (face : Face) (ppem : ℕ) (how : Fit) (gs : List ℕ) (e : FontFault)
@@ -50,16 +49,16 @@ outlines_stop_units face ppem how gs s e there =
 
 -- the job is refused there only for its points
 points_tell : (face : Face) (ppem : ℕ) (how : Fit) (gs : List ℕ) (j : JobFault) → outlines_made face ppem how gs ≡ Err (job j)
-    → (j ≡ job_of.WorkLarge) × (is_bounded how ≡ true) × IsOkAnd (setting face ppem how) (λ s. point_work_limit < points_in s gs)
+    → (j ≡ job_of.WorkLarge) × (is_bounded how ≡ true) × IsOkAnd (setting face ppem how) (λ s. AsksTooMuch s gs)
 points_tell face ppem how gs j fails = elim (was-err (as_font (setting face ppem how)) _ (job j) fails) [
   | inl first ↦ absurd (not_of_font (setting face ppem how) j first)
   | inr later ↦
       let s = later.value in
       let there = of-font (setting face ppem how) s later.first in
-      let points = work_tested how point_work_limit (points_in s gs) in
+      let points = asked_tested how s gs in
       elim (was-err (as_job points) _ (job j) later.rest) [
         | inl first ↦
-            let parts = too_much how point_work_limit (points_in s gs) j (job_of_test points j first) in
+            let parts = asked_much how s gs j (job_of_test points j first) in
             (parts.0, parts.1, rw there parts.2)
         | inr after ↦ absurd (not_of_font (outlines_in s gs) j after.rest)
       ]

@@ -1,5 +1,5 @@
 -- A line changes nothing of a fitter but its work, which is then set back.
-use Rattle.std.proofs.Common.{◌≡◌, ◌≢◌, ◌∙◌, ℕ, ◌*◌, false, List, Option, None, Ok, sym, []}
+use Rattle.std.proofs.Common.{◌≡◌, ◌≢◌, ◌∙◌, ℕ, ◌*◌, false, List, Option, None, Ok, sym}
 use Rattle.tt_fit.proofs.WorkApart.{charges-take-work-alone, fitters-renew}
 use Rattle.tt_fit.specs.Fitting.{Fitter, with_work}
 use Rattle.tt_fit.specs.GlyphCost.{without_work}
@@ -14,34 +14,34 @@ use Rattle.tt_picture.specs.Distinct.{distinct, fitter_after}
 use Rattle.tt_picture.proofs.Cached.{after_alike, for_alike}
 use Rattle.tt_picture.proofs.Unbounded.{uncharged, unchanged}
 use Rattle.tt_strike.specs.Makers.{IsMaker, IsSetting}
-use Rattle.tt_face.specs.Faces.{Face}
-use Rattle.tt_strike.specs.Work.{is_bounded, line_fitter, point_work, points_in, started}
+use Rattle.tt_face.specs.Faces.{Face, FaceInstance}
+use Rattle.tt_strike.specs.Work.{asked_work, is_bounded, line_fitter, started}
 use Rattle.tt_strike.specs.declared.maker.Maker.{Maker}
 use Rattle.tt_strike.specs.declared.maker.Maker.TheVariants as maker
 
 not_best : (how : Fit) → is_bounded how ≡ false → how ≢ fit.Best
 not_best how other is = absurd (let wrong = rw is at other in cc)
 
-pub unbounded : OthersAreUnbounded → (m : Metrics) (tables : Glyf) (programs : ProgramTables) (ppem : ℕ) (how : Fit)
-    (s : Fitter) → fitter_of m tables programs [] ppem how ≡ Ok s → is_bounded how ≡ false → s.work ≡ None
-unbounded law m tables programs ppem how s made other =
-    (law m tables programs [] ppem how s (not_best how other) made).0
+pub unbounded : OthersAreUnbounded → (m : Metrics) (tables : Glyf) (programs : ProgramTables) (i : Option FaceInstance) (ppem : ℕ)
+    (how : Fit) (s : Fitter) → fitter_of m tables programs i ppem how ≡ Ok s → is_bounded how ≡ false → s.work ≡ None
+unbounded law m tables programs i ppem how s made other =
+    (law m tables programs i ppem how s (not_best how other) made).0
 
 -- a fitter with unbounded work is unchanged after a cost and some glyphs
 pub unspent : UnboundedStays → (s t u : Fitter) (gs numbers : List ℕ) → t ≡ started s gs → u ≡ fitter_after t numbers
     → s.work ≡ None → u ≡ s
 unspent stays s t u gs numbers begun after none =
-    let same : t ≡ s = begun ∙ uncharged s (point_work * points_in s gs) none in
+    let same : t ≡ s = begun ∙ uncharged s (asked_work s gs) none in
     let then : u ≡ fitter_after s numbers = rw same at after in
     then ∙ unchanged stays s numbers none
 
 -- nothing is charged to unbounded work
 pub not_started : (s : Fitter) (gs : List ℕ) → s.work ≡ None → s ≡ started s gs
-not_started s gs none = sym (uncharged s (point_work * points_in s gs) none)
+not_started s gs none = sym (uncharged s (asked_work s gs) none)
 
--- the points and the glyphs of a line change nothing but the remaining work
+-- the points, the deltas and the glyphs of a line change nothing but the remaining work
 pub started_alike : (s : Fitter) (gs : List ℕ) → without_work (started s gs) ≡ without_work s
-started_alike s gs = charges-take-work-alone s (point_work * points_in s gs)
+started_alike s gs = charges-take-work-alone s (asked_work s gs)
 
 pub line_alike : (s : Fitter) (gs numbers : List ℕ) → without_work (fitter_after (started s gs) numbers) ≡ without_work s
 line_alike s gs numbers = after_alike (started s gs) numbers ∙ started_alike s gs

@@ -13,7 +13,6 @@ use Rattle.tt_core.specs.declared.fault.JobFault.TheVariants as job_of
 use Rattle.tt_core.specs.declared.font_fault.FontFault.{FontFault}
 use Rattle.tt_core.specs.declared.font_fault.FontFault.TheVariants as font
 use Rattle.tt_core.specs.Faults.{Fault}
-use Rattle.tt_core.specs.Limits.{point_work_limit}
 use Rattle.tt_core.specs.Outcomes.{FontGives, each, draw_fault_of_font, draw_font_fault, draw_job_fault, font_fault}
 use Rattle.tt_core.proofs.Each.{each-failed}
 use Rattle.tt_face.specs.Faces.{Face}
@@ -33,7 +32,7 @@ use Rattle.tt_strike.specs.Made.{text_shapes}
 use Rattle.tt_strike.specs.Picture.{laid_out, outlines_in, outlines_tested, placed_by_steps, setting_in, steps_in}
 use Rattle.tt_strike.specs.Refusals.{Refused, as_font, as_job, job, refusal}
 use Rattle.tt_strike.specs.Refusals as outcome
-use Rattle.tt_strike.specs.Work.{chords_in, is_bounded, line_fitter, points_in, work_tested}
+use Rattle.tt_strike.specs.Work.{asked_tested, chords_in, is_bounded, line_fitter}
 use Rattle.tt_strike.proofs.Placed.{placed_by_its_steps}
 use Rattle.tt_strike.proofs.Stopped.{stops, stops_after}
 
@@ -161,7 +160,7 @@ not_of_font (Err f) j was = absurd cc
 pub outlines_tell_defect : (face : Face) (a : Job) (s : Fitter) (gs : List ℕ) (e : DrawFault) → setting_in face a ≡ Ok s
     → IfSome (refusal e) (λ r. outlines_tested s a.fit gs ≡ Err r) → IfSome (draw_font_fault e) (IsLineDefect face a gs)
 outlines_tell_defect face a s gs (draw.Font f) there fails =
-    let points = work_tested a.fit point_work_limit (points_in s gs) in
+    let points = asked_tested a.fit s gs in
     elim (was-err (as_job points) _ (outcome.font f) fails) [
       | inl first ↦ absurd (not_of_job points f first)
       | inr later ↦ inr (rw there (outline_defect (line_fitter s gs) gs f (font_of (outlines_in s gs) f later.rest)))
@@ -190,7 +189,7 @@ chords_made s gs fs fitted numbers =
 
 -- what the points and the outlines are, together
 pub outlines_pass : (s : Fitter) (a : Job) (gs : List ℕ) (os : List Outline)
-    → work_tested a.fit point_work_limit (points_in s gs) ≡ Ok tt → outlines_in s gs ≡ Ok os
+    → asked_tested a.fit s gs ≡ Ok tt → outlines_in s gs ≡ Ok os
     → outlines_tested s a.fit gs ≡ Ok os
 outlines_pass s a gs os few made = rw (few, made) refl
 
@@ -203,14 +202,14 @@ line_tells_no_defect P r draw.Memory fails = tt
 
 -- a stop at the points, or at an outline
 pub points_stop_outlines : (s : Fitter) (how : Fit) (gs : List ℕ) (e : DrawFault)
-    → IfSome (refusal e) (λ r. as_job (work_tested how point_work_limit (points_in s gs)) ≡ Err r)
+    → IfSome (refusal e) (λ r. as_job (asked_tested how s gs) ≡ Err r)
     → IfSome (refusal e) (λ r. outlines_tested s how gs ≡ Err r)
 points_stop_outlines s how gs (draw.Font f) fails = rw fails refl
 points_stop_outlines s how gs (draw.Job j) fails = rw fails refl
 points_stop_outlines s how gs draw.Memory fails = tt
 
 pub outline_stops_outlines : (s : Fitter) (how : Fit) (gs : List ℕ) (e : FontFault)
-    → as_job (work_tested how point_work_limit (points_in s gs)) ≡ Ok tt
+    → as_job (asked_tested how s gs) ≡ Ok tt
     → IfSome (font_fault e) (λ f. outlines_in s gs ≡ Err f)
     → IfSome (refusal (draw_fault_of_font e)) (λ r. outlines_tested s how gs ≡ Err r)
 outline_stops_outlines s how gs (font.Font f) few fails = rw (few, fails) refl

@@ -8,15 +8,16 @@ use Rattle.tt_core.specs.declared.font_fault.FontFault.TheVariants as font
 use Rattle.tt_core.specs.declared.fault.JobFault.{JobFault}
 use Rattle.tt_core.specs.declared.fault.JobFault.TheVariants as job_of
 use Rattle.tt_core.specs.Faults.{Fault}
-use Rattle.tt_core.specs.Limits.{size_limit}
+use Rattle.tt_core.specs.Limits.{point_work_limit, size_limit}
 use Rattle.tt_core.specs.Outcomes.{◌>>=◌, FontGives, GivesUnless, IfTold, JobGives, draw_fault_of_font, draw_font_fault, draw_job_fault, font_fault}
+use Rattle.tt_fit.specs.DeltaCounting.{delta_limit}
 use Rattle.tt_fit.specs.Fitting.{Fitter}
 use Rattle.tt_line.specs.declared.line.Line.{Line}
 use Rattle.tt_fit.specs.declared.programs.Fit.{Fit}
 use Rattle.tt_line.specs.Layout.{Placement, extent_of, placement, text_glyphs, IsRefusal}
 use Rattle.tt_line.specs.Outcome.{placement_of}
 use Rattle.tt_strike.specs.Job.{Job, margin_tested, size_tested, tested, text_tested}
-use Rattle.tt_strike.specs.Defects.{IsTooMuchWork, IsLineRefusal}
+use Rattle.tt_strike.specs.Defects.{AsksTooMuch, IsTooMuchWork, IsLineRefusal}
 use Rattle.tt_face.specs.Faces.{Face}
 use Rattle.tt_strike.specs.Refusals.{Refused, as_font, as_job, job, refusal}
 use Rattle.tt_strike.specs.Picture.{edges_tested, drawn, laid_out, line_outcome, line_shapes, pictured_by, shapes_in, points_tested, setting_in, text_placed}
@@ -28,7 +29,7 @@ use Rattle.tt_strike.specs.Made.{shapes_made, text_shapes}
 use Rattle.tt_strike.specs.Measures.{measured, measured_line}
 use Rattle.tt_picture.specs.Pixels.{Shape}
 use Rattle.tt_picture.specs.Shapes.{crossings_in}
-use Rattle.tt_strike.specs.Work.{chord_limit, chords_in, crossings_allowed, edges_limited, is_bounded, work_left, work_tested}
+use Rattle.tt_strike.specs.Work.{asked_tested, chord_limit, chords_in, counts_tested, crossings_allowed, deltas_in, edges_limited, is_bounded, points_in, work_left, work_tested}
 use Rattle.tt_strike.proofs.Placed.{placed_by_advances}
 
 -- a font at a size has passed the test of its size
@@ -89,6 +90,15 @@ too_much how limit work j refused =
     let past : limit < work = let is = parts.2 in grind (arith, nat_tests) in
     (parts.0, parts.1, past)
 
+-- points or deltas past theirs
+pub asked_much : (how : Fit) (s : Fitter) (gs : List ℕ) (j : JobFault) → asked_tested how s gs ≡ Err j
+    → (j ≡ job_of.WorkLarge) × (is_bounded how ≡ true) × AsksTooMuch s gs
+unfolding counts_tested
+asked_much how s gs j refused = elim (was-err (work_tested how point_work_limit (points_in s gs)) _ j refused) [
+  | inl first ↦ let parts = too_much how point_work_limit (points_in s gs) j first in (parts.0, (parts.1, inl parts.2))
+  | inr later ↦ let parts = too_much how delta_limit (deltas_in s gs) j later.rest in (parts.0, (parts.1, inr parts.2))
+]
+
 pub edges_tell : (face : Face) (a : Job) (l : Placement) (s : Fitter) (glyphs : List Shape) (j : JobFault)
     → setting_in face a ≡ Ok s → text_placed face a ≡ Ok l → shapes_in s l ≡ Ok glyphs → edges_tested s a l glyphs ≡ Err j
     → (j ≡ job_of.WorkLarge) × IsTooMuchWork face a
@@ -108,7 +118,7 @@ edges_tell face a l s glyphs j there placed made refused =
 
 -- unbounded work passes each test
 pub unbounded_points : (s : Fitter) (a : Job) (l : Placement) → is_bounded a.fit ≡ false → as_job (points_tested s a l) ≡ Ok tt
-unfolding work_tested
+unfolding counts_tested work_tested
 unbounded_points s a l other = rw other refl
 
 pub unbounded_edges : (s : Fitter) (a : Job) (l : Placement) (glyphs : List Shape) → is_bounded a.fit ≡ false

@@ -1,6 +1,5 @@
 -- No part of the standard: some units whose glyphs are fitted before they are laid out and drawn.
 use Rattle.std.specs.Prelude.{◌≡◌, ℕ, List, Result, Ok}
-use Rattle.tt_core.specs.Limits.{point_work_limit}
 use Rattle.tt_core.specs.Outcomes.{◌>>=◌}
 use Rattle.tt_face.specs.Faces.{Face}
 use Rattle.tt_fit.specs.Fitting.{Fitter}
@@ -13,7 +12,7 @@ use Rattle.tt_strike.specs.declared.fitting.FittedUnits.{FittedUnits}
 use Rattle.tt_strike.specs.Makers.{IsSetting}
 use Rattle.tt_strike.specs.Picture.{outlines_in, outlines_tested, setting}
 use Rattle.tt_strike.specs.Refusals.{Refused, as_font}
-use Rattle.tt_strike.specs.Work.{line_fitter, points_in, work_left, work_tested}
+use Rattle.tt_strike.specs.Work.{asked_tested, line_fitter, work_left}
 
 -- the outlines of some units by a font's tables, or the first refusal
 abbrev pub outlines_made : Face → ℕ → Fit → List ℕ → Result (List Outline) Refused
@@ -23,7 +22,7 @@ outlines_made face ppem how gs = as_font (setting face ppem how) >>= λ s. outli
 -- remains
 pub record AreFittedUnits (face : Face) (ppem : ℕ) (how : Fit) (gs : List ℕ) (t : FittedUnits) (s : Fitter) : Type 0 where
   pub setting : IsSetting face ppem how s
-  pub points : work_tested how point_work_limit (points_in s gs) ≡ Ok tt
+  pub points : asked_tested how s gs ≡ Ok tt
   pub outlines : (os : List Outline) × (outlines_in s gs ≡ Ok os)
   pub places : ArePlaces t.places.items (fitted_numbers t.fitted.items)
   pub numbers : fitted_numbers t.fitted.items ≡ distinct gs

@@ -1,5 +1,5 @@
 -- No part of the standard: the job of a call, its tests before the font is read, and its face (profile).
-use Rattle.std.specs.Prelude.{◌≡◌, refl, ℕ, ◌<◌, ◌≤◌, ◌||◌, nat_lt, if◌then◌else◌, List, length, chars, codes, Result, Ok, Err, IsOkAnd, ◌⊎◌}
+use Rattle.std.specs.Prelude.{◌≡◌, refl, ℕ, ◌<◌, ◌≤◌, ◌||◌, nat_lt, if◌then◌else◌, List, length, chars, codes, Option, Result, Ok, Err, IsOkAnd, ◌⊎◌}
 use Rattle.tt_face.specs.declared.rules.Opening.{Opening}
 use Rattle.tt_core.specs.declared.fault.JobFault.{JobFault}
 use Rattle.tt_core.specs.declared.fault.JobFault.TheVariants as fault
@@ -7,14 +7,14 @@ use Rattle.tt_core.specs.Faults.{Fault}
 use Rattle.tt_core.specs.Limits.{text_limit, size_limit, margin_limit}
 use Rattle.tt_core.specs.Outcomes.{◌>>=◌}
 use Rattle.tt_face.specs.Faces.{Face}
-use Rattle.tt_face.specs.Files.{face_with, IsFaceDefectBy}
+use Rattle.tt_face.specs.Instance.{Asked, IsDefectAtInstance, face_at_instance}
 use Rattle.tt_fit.specs.declared.programs.Fit.{Fit}
 use Rattle.tt_fit.specs.declared.programs.Fit.TheVariants as fit
 use Rattle.tt_strike.specs.Refusals.{Refused, as_font}
 use Rattle.tt_strike.specs.declared.job.Job as declared
 
--- a text, the pixels per em, the pixels round the line, and how outlines are fitted. The way in which the
--- face is opened stands beside the job: once the face is open, nothing else depends on it
+-- a text, the pixels per em, the pixels round the line, and how outlines are fitted. The way in which the face is opened, and
+-- the instance that is asked for, stand beside the job: once the face is open, nothing else depends on them
 pub record Job : Type 0 where
   pub text : List ℕ
   pub ppem : ℕ
@@ -61,17 +61,17 @@ IsTestRefusal a fault.MarginRange = margin_limit < a.margin
 IsTestRefusal a fault.TextLong = text_limit < length (chars a.text)
 IsTestRefusal a j = ⊥
 
--- what a job makes of the face of a font file
-abbrev pub by_face : {X : Type 0} → (Face → Job → Result X Refused) → Opening → Job → List ℕ → Result X Refused
-by_face make r a file = as_font (face_with file r) >>= λ face. make face a
+-- what a job makes of the face of a font file, at the instance that is asked for
+abbrev pub by_face : {X : Type 0} → (Face → Job → Result X Refused) → Opening → Option Asked → Job → List ℕ → Result X Refused
+by_face make r i a file = as_font (face_at_instance file r i) >>= λ face. make face a
 
 -- a fact of a job by that face, if there is one
-abbrev pub ByFace : (Face → Job → Type 0) → Opening → Job → List ℕ → Type 0
-ByFace P r a file = IsOkAnd (face_with file r) (λ face. P face a)
+abbrev pub ByFace : (Face → Job → Type 0) → Opening → Option Asked → Job → List ℕ → Type 0
+ByFace P r i a file = IsOkAnd (face_at_instance file r i) (λ face. P face a)
 
--- a defect of a font file as it is opened for a job: one of the face, or one of this kind by the face
-abbrev pub IsFontDefect : (Face → Job → Fault → Type 0) → Opening → Job → List ℕ → Fault → Type 0
-IsFontDefect IsOne r a file fault = IsFaceDefectBy file r.reading fault ⊎ ByFace (λ face a. IsOne face a fault) r a file
+-- a defect of a font file as it is opened for a job: one of the face or of its instance, or one of this kind by the face
+abbrev pub IsFontDefect : (Face → Job → Fault → Type 0) → Opening → Option Asked → Job → List ℕ → Fault → Type 0
+IsFontDefect IsOne r i a file fault = IsDefectAtInstance file r i fault ⊎ ByFace (λ face a. IsOne face a fault) r i a file
 
 -- worked values
 of_size : ℕ → Job

@@ -1,25 +1,28 @@
 -- No part of the standard: the layout of a text without its ink (profile): the size of its picture, its base line, its
 -- distance from a next line, and where each unit's pen stands. Only with best, whose steps are those of fitted glyphs,
--- are glyphs made.
+-- are glyphs made. At an instance without HVAR their data are read for the advances.
 use Rattle.std.specs.Prelude.{◌≡◌, refl, ℕ, ◌+◌, pos, ◌+ℤ◌, Bool, true, false, List, [], ◌∷◌, length, chars, map, sum, if◌then◌else◌, None, Result, Ok, ⊤}
 use Rattle.tt_cmap.specs.declared.units.TextUnit.{TextUnit}
 use Rattle.tt_cmap.specs.Maps.{units_by}
 use Rattle.tt_core.specs.declared.draw_fault.DrawFault.{DrawFault}
 use Rattle.tt_core.specs.declared.draw_fault.DrawFault.TheVariants as draw
 use Rattle.tt_core.specs.Faults.{Fault}
-use Rattle.tt_core.specs.Outcomes.{◌>>=◌, IfTold, draw_font_fault}
-use Rattle.tt_face.specs.Faces.{Face}
+use Rattle.tt_core.specs.Outcomes.{◌>>=◌}
+use Rattle.tt_advances.specs.Defects.{IsAdvanceDefect}
+use Rattle.tt_advances.specs.Found.{advances_tested}
+use Rattle.tt_advances.specs.Lines.{advance_line}
+use Rattle.tt_face.specs.Faces.{Face, finds_advances}
+use Rattle.tt_fit.specs.declared.programs.Fit.{Fit}
 use Rattle.tt_line.specs.declared.measured.LineSize.{LineSize}
 use Rattle.tt_line.specs.Layout.{text_glyphs}
 use Rattle.tt_line.specs.Sizes.{line_size}
-use Rattle.tt_line.specs.Steps.{linear_line}
 use Rattle.tt_strike.specs.declared.layouts.Layout.{Layout}
 use Rattle.tt_strike.specs.declared.layouts.Pen.{Pen}
-use Rattle.tt_strike.specs.Defects.{TellsDefects}
+use Rattle.tt_strike.specs.Defects.{IsLineDefect}
 use Rattle.tt_strike.specs.Job.{Job, tested}
 use Rattle.tt_strike.specs.Picture.{made_line, outlines_tested, setting_in}
 use Rattle.tt_strike.specs.Refusals.{Refused, as_font, as_job}
-use Rattle.tt_strike.specs.Work.{lays_after_glyphs}
+use Rattle.tt_strike.specs.Work.{is_bounded, lays_after_glyphs}
 
 -- a refusal that is not for want of memory
 abbrev pub IsNotMemory : DrawFault → Type 0
@@ -27,11 +30,18 @@ IsNotMemory (draw.Font f) = ⊤
 IsNotMemory (draw.Job j) = ⊤
 IsNotMemory draw.Memory = ⊥
 
--- where glyphs are made, Ok means that none of these defects stands, and an error's fault is one. Elsewhere no fault of
--- the font is told, since no glyph is read
-abbrev pub TellsMadeDefects : {V : Type 0} → Bool → (Fault → Type 0) → Result V DrawFault → Type 0
-TellsMadeDefects true IsOne result = TellsDefects draw_font_fault IsOne result
-TellsMadeDefects false IsOne result = IfTold draw_font_fault result (λ fault. ⊥)
+-- a defect of the data by which some glyphs are laid out: where they are made, one of the line, else one of their advances;
+-- only at an instance without HVAR is there any such data
+abbrev pub LayoutDefectBy : Bool → Face → Job → List ℕ → Fault → Type 0
+LayoutDefectBy true face a gs fault = IsLineDefect face a gs fault
+LayoutDefectBy false face a gs fault = IsAdvanceDefect face gs fault
+
+abbrev pub HasLayoutDefect : Face → Job → List ℕ → Fault → Type 0
+HasLayoutDefect face a gs fault = LayoutDefectBy (lays_after_glyphs a.fit) face a gs fault
+
+-- a layout reads no glyph, and takes no memory
+abbrev pub ReadsNoGlyph : Face → Fit → Type 0
+ReadsNoGlyph face how = (is_bounded how ≡ false) × (finds_advances face ≡ false)
 
 -- the glyphs of a text with their steps, which are made by a fitter
 abbrev pub made_steps : Face → Job → Result (List (ℕ × ℕ)) Refused
@@ -41,10 +51,15 @@ made_steps face a =
     outlines_tested s a.fit gs >>= λ outlines.
     Ok (made_line face.metrics a.ppem s gs)
 
+-- the glyphs of a text with their steps by advances, which are found
+abbrev pub found_steps : Face → Job → Result (List (ℕ × ℕ)) Refused
+found_steps face a =
+    let gs = text_glyphs face.cmap a.text in
+    as_font (advances_tested face gs) >>= λ u. Ok (advance_line face a.ppem gs)
+
 -- the glyphs of a text with their steps, or the first refusal
 unfoldable pub steps_outcome : Face → Job → Result (List (ℕ × ℕ)) Refused
-steps_outcome face a = if lays_after_glyphs a.fit then made_steps face a
-    else Ok (linear_line face.metrics a.ppem (text_glyphs face.cmap a.text))
+steps_outcome face a = if lays_after_glyphs a.fit then made_steps face a else found_steps face a
 
 -- the size of a line by its glyphs with their steps, or the refusal
 abbrev pub size_by : Face → Job → List (ℕ × ℕ) → Result LineSize Refused

@@ -1,10 +1,12 @@
 -- No part of the standard: the measure of a line: its base line, its characters and their ink, in columns and rows of
 -- the picture.
-use Rattle.std.specs.Prelude.{ℕ, ◌+◌, if◌then◌else◌, ℤ, pos, ◌+ℤ◌, List, [], ◌∷◌, map, Option, None, Result, Ok}
+use Rattle.std.specs.Prelude.{◌≡◌, ℕ, true, false, ◌+◌, if◌then◌else◌, ℤ, pos, ◌+ℤ◌, List, [], ◌∷◌, map, Option, None, Result, Ok}
 use Rattle.tt_core.specs.Outcomes.{◌>>=◌}
 use Rattle.tt_fit.specs.Fitting.{Fitter}
 use Rattle.tt_line.specs.Layout.{Placement}
-use Rattle.tt_line.specs.Steps.{kerning_before, step_in_pixels}
+use Rattle.tt_advances.specs.Found.{units_of}
+use Rattle.tt_advances.specs.Lines.{advance_step}
+use Rattle.tt_line.specs.Steps.{kerning_before}
 use Rattle.tt_metrics.specs.Metrics.{Metrics}
 use Rattle.tt_fit.specs.declared.programs.Fit.{Fit}
 use Rattle.tt_picture.specs.Glyphs.{Glyph}
@@ -15,8 +17,8 @@ use Rattle.tt_picture.specs.Steps.{kerned_step}
 use Rattle.tt_strike.specs.Job.{Job}
 use Rattle.tt_strike.specs.Picture.{advance_with, frame_of, laid_out, line_shapes, setting_in}
 use Rattle.tt_strike.specs.Refusals.{Refused, as_font}
-use Rattle.tt_face.specs.Faces.{Face}
-use Rattle.tt_strike.specs.Work.{lays_after_glyphs, line_fitter}
+use Rattle.tt_face.specs.Faces.{Face, finds_advances}
+use Rattle.tt_strike.specs.Work.{is_bounded, lays_after_glyphs, line_fitter}
 use Rattle.tt_picture.specs.declared.ink_box.InkBox.{InkBox}
 use Rattle.tt_strike.specs.declared.measuring.CharacterMeasure.{CharacterMeasure}
 use Rattle.tt_strike.specs.declared.measuring.Measure as declared
@@ -78,16 +80,20 @@ measure_by m step margin inked line =
 abbrev pub line_ink : Fitter → Placement → ℕ → Option LeastBox
 line_ink s line g = glyph_ink (line_fitter s (map (λ g. g.0) line.glyphs) g) g
 
--- the step of each glyph of a line with its kerning: by its own advance, by its fitter, or by that of hmtx
+-- the step of each glyph of a line with its kerning: by its own advance, by its fitter, or by that of the face
 abbrev pub line_step : Face → Job → Fitter → Placement → ℕ → ℤ → ℕ
 line_step face a s line g k =
     if lays_after_glyphs a.fit then kerned_step face.metrics a.ppem (advance_with s (map (λ g. g.0) line.glyphs) g) k
-    else step_in_pixels face.metrics a.ppem g k
+    else advance_step face a.ppem g k
 
 -- the step of a made glyph with its kerning
-abbrev pub made_step : Metrics → ℕ → Fit → Glyph → ℤ → ℕ
-made_step m ppem how g k = if lays_after_glyphs how then kerned_step m ppem g.advance_left k
-    else step_in_pixels m ppem g.number k
+abbrev pub made_step : Face → ℕ → Fit → Glyph → ℤ → ℕ
+made_step face ppem how g k = if lays_after_glyphs how then kerned_step face.metrics ppem g.advance_left k
+    else advance_step face ppem g.number k
+
+-- where lines are laid out by the data of glyphs: these are the advances of some glyphs in font units
+abbrev pub HasUnits : Face → Fit → List ℕ → List ℕ → Type 0
+HasUnits face how gs units = is_bounded how ≡ false → finds_advances face ≡ true → units ≡ map (units_of face) gs
 
 -- the measure of a laid-out line; it is refused exactly where its picture is
 unfoldable pub measured_line : Face → Job → Placement → Result Measure Refused

@@ -1,17 +1,19 @@
 -- The picture of a line of text: each glyph's outline moved to its pen, blackened by the scan converter's rules
 -- (OpenType, "TrueType Fundamentals"). Margins and limits are profile. With best a line is laid out by the steps of its
--- glyphs, which are made first. With any other fit it is laid out by advances. Kerning counts in both.
-use Rattle.std.specs.Prelude.{ℕ, ℤ, if◌then◌else◌, List, map, Result, Ok, []}
+-- glyphs, which are made first. With any other fit it is laid out by advances, which the glyphs' own data give at an
+-- instance without HVAR. Kerning counts in both.
+use Rattle.std.specs.Prelude.{ℕ, ℤ, if◌then◌else◌, List, map, Option, Result, Ok}
 use Rattle.tt_face.specs.declared.rules.Opening.{Opening}
 use Rattle.tt_core.specs.declared.fault.JobFault.{JobFault}
 use Rattle.tt_core.specs.Faults.{Fault}
-use Rattle.tt_core.specs.Limits.{point_work_limit}
 use Rattle.tt_core.specs.Outcomes.{◌>>=◌, each}
 use Rattle.tt_fit.specs.Fitting.{Fitter}
 use Rattle.tt_fit.specs.Preparation.{fitter_of}
 use Rattle.tt_fit.specs.declared.programs.Fit.{Fit}
 use Rattle.tt_fit.specs.outline.Outline.{Outline}
-use Rattle.tt_line.specs.Layout.{Placement, laid_at, placement, text_glyphs}
+use Rattle.tt_advances.specs.Found.{advances_tested}
+use Rattle.tt_advances.specs.Lines.{advance_steps}
+use Rattle.tt_line.specs.Layout.{Placement, laid_at, text_glyphs}
 use Rattle.tt_line.specs.Steps.{stepped}
 use Rattle.tt_metrics.specs.Metrics.{Metrics}
 use Rattle.tt_scan_edges.specs.declared.edge.Frame.{Frame}
@@ -23,15 +25,16 @@ use Rattle.tt_picture.specs.Pixels.{Shape}
 use Rattle.tt_picture.specs.Shapes.{crossings_in, glyph_shape}
 use Rattle.tt_picture.specs.Steps.{glyph_advance, outlines_by, step_by}
 use Rattle.tt_face.specs.Faces.{Face, glyphs_in}
+use Rattle.tt_face.specs.Instance.{Asked}
 use Rattle.tt_strike.specs.Programs.{programs_in}
-use Rattle.tt_strike.specs.Work.{chords_in, edges_limited, lays_after_glyphs, line_fitter, points_in, work_left, work_tested}
+use Rattle.tt_strike.specs.Work.{asked_tested, chords_in, edges_limited, lays_after_glyphs, line_fitter, work_left}
 
--- the fitter: the glyph data, and the state after the font's programs at the size
+-- the fitter: the glyph data, the face's instance, and the state after the font's programs at the size
 unfoldable pub setting : Face → ℕ → Fit → Result Fitter Fault
 setting face ppem how = do
   tables ← glyphs_in face
   programs ← programs_in face how
-  fitter_of face.metrics tables programs [] ppem how
+  fitter_of face.metrics tables programs face.instance ppem how
 
 abbrev pub setting_in : Face → Job → Result Fitter Fault
 setting_in face a = setting face a.ppem a.fit
@@ -60,13 +63,13 @@ steps_in m ppem s gs = map (λ g. g.1) (made_line m ppem s gs)
 abbrev pub shapes_in : Fitter → Placement → Result (List Shape) Fault
 shapes_in s line = each (glyph_shape (line_fitter s (map (λ g. g.0) line.glyphs))) line.glyphs
 
--- a line's glyphs have few enough points for the job
+-- a line's glyphs have few enough points and deltas for the job
 abbrev pub points_tested : Fitter → Job → Placement → Result (Unit {0}) JobFault
-points_tested s a line = work_tested a.fit point_work_limit (points_in s (map (λ g. g.0) line.glyphs))
+points_tested s a line = asked_tested a.fit s (map (λ g. g.0) line.glyphs)
 
--- the outlines of some glyphs, once their points are tested, or the first refusal
+-- the outlines of some glyphs, once their points and deltas are tested, or the first refusal
 abbrev pub outlines_tested : Fitter → Fit → List ℕ → Result (List Outline) Refused
-outlines_tested s how gs = as_job (work_tested how point_work_limit (points_in s gs)) >>= λ u. as_font (outlines_in s gs)
+outlines_tested s how gs = as_job (asked_tested how s gs) >>= λ u. as_font (outlines_in s gs)
 
 -- a line's glyphs have few enough chords, and then few enough crossings, in its picture and outside, for the work that
 -- remains
@@ -98,10 +101,16 @@ placed_by_steps face a =
     outlines_tested s a.fit gs >>= λ outlines.
     as_job (laid_at face.metrics a.ppem a.margin gs (steps_in face.metrics a.ppem s gs))
 
+-- a text laid out by the advances of its glyphs, which are found first, or the first refusal
+unfoldable pub placed_by_units : Face → Job → Result Placement Refused
+placed_by_units face a =
+    let gs = text_glyphs face.cmap a.text in
+    as_font (advances_tested face gs) >>= λ u.
+    as_job (laid_at face.metrics a.ppem a.margin gs (advance_steps face a.ppem gs))
+
 -- a text laid out by a font's tables, or the first refusal
 unfoldable pub text_placed : Face → Job → Result Placement Refused
-text_placed face a = if lays_after_glyphs a.fit then placed_by_steps face a
-    else as_job (placement face.metrics face.cmap a.text a.ppem a.margin)
+text_placed face a = if lays_after_glyphs a.fit then placed_by_steps face a else placed_by_units face a
 
 -- the same, once the job is tested
 abbrev pub laid_out : Face → Job → Result Placement Refused
@@ -115,6 +124,6 @@ pictured_by face a = text_placed face a >>= λ line. drawn face a line
 unfoldable pub line_outcome : Face → Job → Result Image Refused
 line_outcome face a = as_job (tested a) >>= λ u. pictured_by face a
 
--- the picture of a job by a font file as it is opened
-unfoldable pub pictured : Opening → Job → List ℕ → Result Image Refused
-pictured r a file = by_face pictured_by r a file
+-- the picture of a job by a font file as it is opened, at the instance that is asked for
+unfoldable pub pictured : Opening → Option Asked → Job → List ℕ → Result Image Refused
+pictured r i a file = by_face pictured_by r i a file

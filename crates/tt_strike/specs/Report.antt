@@ -1,6 +1,6 @@
 -- No part of the standard: the unfitted glyphs of a text, whose points are only scaled, each with the fault of a
 -- program (profile).
-use Rattle.std.specs.Prelude.{ℕ, List, map, Result, Ok}
+use Rattle.std.specs.Prelude.{ℕ, List, map, Option, Result, Ok}
 use Rattle.tt_face.specs.declared.rules.Opening.{Opening}
 use Rattle.tt_core.specs.Outcomes.{◌>>=◌}
 use Rattle.tt_line.specs.Layout.{Placement}
@@ -11,6 +11,7 @@ use Rattle.tt_strike.specs.Job.{Job, by_face}
 use Rattle.tt_strike.specs.Picture.{line_shapes, setting_in, text_placed}
 use Rattle.tt_strike.specs.Refusals.{Refused, as_font}
 use Rattle.tt_face.specs.Faces.{Face}
+use Rattle.tt_face.specs.Instance.{Asked}
 use Rattle.tt_strike.specs.Work.{line_fitter}
 
 -- the unfitted glyphs of a drawn line, each once, in order of first appearance
@@ -24,6 +25,6 @@ line_report face a line =
 unfoldable pub report_by : Face → Job → Result (List Unfitted) Refused
 report_by face a = text_placed face a >>= λ line. line_report face a line
 
--- the unfitted glyphs of a text by a font file as it is opened
-unfoldable pub report_of : Opening → Job → List ℕ → Result (List Unfitted) Refused
-report_of r a file = by_face report_by r a file
+-- the unfitted glyphs of a text by a font file as it is opened, at the instance that is asked for
+unfoldable pub report_of : Opening → Option Asked → Job → List ℕ → Result (List Unfitted) Refused
+report_of r i a file = by_face report_by r i a file

@@ -1,11 +1,13 @@
--- No part of the standard: the limits of a job's work (profile). It is bounded only with best.
+-- No part of the standard: the limits of a job's work (profile). It is bounded only with best. Before a glyph is made, its
+-- points and the deltas of the face's instance are counted by headers alone.
 use Rattle.std.specs.Prelude.{◌≡◌, refl, ℕ, ◌+◌, ◌*◌, ◌/◌, min, ◌&&◌, nat_lt, Bool, true, false, if◌then◌else◌, List, Option, Some, None, Result, Ok, Err}
 use Rattle.std.specs.List.{sum_by}
 use Rattle.tt_core.specs.declared.fault.JobFault.{JobFault}
 use Rattle.tt_core.specs.declared.fault.JobFault.TheVariants as fault
-use Rattle.tt_core.specs.Limits.{crossing_limit}
+use Rattle.tt_core.specs.Limits.{crossing_limit, point_work_limit}
 use Rattle.tt_core.specs.Outcomes.{◌>>=◌}
 use Rattle.tt_fit.specs.Counting.{points_asked}
+use Rattle.tt_fit.specs.DeltaCounting.{delta_limit, deltas_asked}
 use Rattle.tt_fit.specs.Fitting.{Fitter, charged_fitter}
 use Rattle.tt_picture.specs.Distinct.{distinct, each_fitter, fitter_after}
 use Rattle.tt_picture.specs.Steps.{glyph_chords}
@@ -27,17 +29,49 @@ lays_after_glyphs how = is_bounded how
 unfoldable pub work_tested : Fit → ℕ → ℕ → Result (Unit {0}) JobFault
 work_tested how limit work = if is_bounded how && nat_lt limit work then Err fault.WorkLarge else Ok tt
 
+-- the points of some glyphs
+abbrev pub points_of_all : Fitter → List ℕ → ℕ
+points_of_all s gs = sum_by (points_asked s.tables s.levels) gs
+
 -- the points of a line's glyphs, each glyph once
 abbrev pub points_in : Fitter → List ℕ → ℕ
-points_in s gs = sum_by (points_asked s.tables s.levels) (distinct gs)
+points_in s gs = points_of_all s (distinct gs)
 
 -- each point takes this much of a line's work, before the first glyph is made
 abbrev pub point_work : ℕ
 point_work = 40
 
--- the fitter of a line, after the points of the line's glyphs
+-- the deltas of some glyphs at the instance of the face, and those of the control values
+abbrev pub deltas_of_all : Fitter → List ℕ → ℕ
+deltas_of_all s gs = s.control_deltas + sum_by (deltas_asked s.instance s.tables s.levels) gs
+
+-- those of a line's glyphs, each glyph once
+abbrev pub deltas_in : Fitter → List ℕ → ℕ
+deltas_in s gs = deltas_of_all s (distinct gs)
+
+-- each delta takes this much of it
+abbrev pub delta_work : ℕ
+delta_work = 4
+
+-- tests the points of some glyphs, and then their deltas
+unfoldable pub counts_tested : Fit → ℕ → ℕ → Result (Unit {0}) JobFault
+counts_tested how points deltas =
+    work_tested how point_work_limit points >>= λ u. work_tested how delta_limit deltas
+
+-- the same of the distinct glyphs of a line, before the first glyph is made
+abbrev pub asked_tested : Fit → Fitter → List ℕ → Result (Unit {0}) JobFault
+asked_tested how s gs = counts_tested how (points_in s gs) (deltas_in s gs)
+
+-- what points and deltas take of a line's work
+abbrev pub work_of_counts : ℕ → ℕ → ℕ
+work_of_counts points deltas = point_work * points + delta_work * deltas
+
+abbrev pub asked_work : Fitter → List ℕ → ℕ
+asked_work s gs = work_of_counts (points_in s gs) (deltas_in s gs)
+
+-- the fitter of a line, after the points and the deltas of the line's glyphs
 abbrev pub started : Fitter → List ℕ → Fitter
-started s gs = charged_fitter s (point_work * points_in s gs)
+started s gs = charged_fitter s (asked_work s gs)
 
 -- the fitter for each glyph of a line
 abbrev pub line_fitter : Fitter → List ℕ → ℕ → Fitter
@@ -77,6 +111,26 @@ too_little_for_one = refl
 
 none_remains : crossings_allowed (Some 0) ≡ 500000
 none_remains = refl
+
+as_many_deltas_as_may_be : counts_tested fit.Best 1000000 8000000 ≡ Ok tt
+unfolding counts_tested work_tested
+as_many_deltas_as_may_be = refl
+
+one_delta_more : counts_tested fit.Best 0 8000001 ≡ Err fault.WorkLarge
+unfolding counts_tested work_tested
+one_delta_more = refl
+
+one_point_more : counts_tested fit.Best 1000001 0 ≡ Err fault.WorkLarge
+unfolding counts_tested work_tested
+one_point_more = refl
+
+deltas_without_a_bound : counts_tested fit.Full 1000001 8000001 ≡ Ok tt
+unfolding counts_tested work_tested
+deltas_without_a_bound = refl
+
+-- a pangram of the survey: 86,773 deltas, and some 1,100 points
+of_a_pangram : work_of_counts 1100 86773 ≡ 391092
+of_a_pangram = refl
 
 as_many_chords_as_may_be : work_tested fit.Best chord_limit 32000000 ≡ Ok tt
 unfolding work_tested

@@ -8,7 +8,7 @@ ghost use Rattle.tt_metrics.specs.Metrics.{glyphs_of};
 ghost use Rattle.tt_picture.specs.Cached.{limit_of};
 ghost use Rattle.tt_picture.specs.Pictures.{image_of};
 ghost use Rattle.tt_strike.specs.Costs.{line_cost};
-ghost use Rattle.tt_strike.specs.Defects.{IsLineDefect, IsLineRefusal, TellsDefects};
+ghost use Rattle.tt_strike.specs.Defects.{IsLineDefect, IsLineRefusal, IsMadeDefect, TellsDefects};
 ghost use Rattle.tt_strike.specs.Fitted.{HasFittedUnits};
 ghost use Rattle.tt_strike.specs.Made.{AreMade, shapes_made};
 ghost use Rattle.tt_strike.specs.Picture.{frame_of, laid_out, line_outcome};
@@ -38,7 +38,7 @@ impl<'f, 'a> SizedFace<'f, 'a> {
         ensures cache { IsCacheOf self.old cache.new }
         ensures limit { limit_of cache.new ≡ limit_of cache.old }
         ensures same { self.new ≡ self.old }
-        ensures defects { TellsDefects draw_font_fault (IsLineDefect self.old.face (job_with self.old laid.now.margin) (map (λ g. g.0) laid.now.line.glyphs.items)) result }
+        ensures defects { TellsDefects draw_font_fault (IsMadeDefect self.old.face (job_with self.old laid.now.margin) (map (λ g. g.0) laid.now.line.glyphs.items)) result }
         ensures job { IfTold draw_job_fault result (λ j. ⊥) }
     {
         tt_fit::laws::work_unfits();

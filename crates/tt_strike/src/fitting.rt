@@ -4,7 +4,7 @@ ghost use Rattle.std.specs.Prelude.{◌≡◌, ◌<◌, ◌≤◌, true, length,
 ghost use Rattle.tt_core.specs.Limits.{text_limit};
 ghost use Rattle.tt_core.specs.Outcomes.{IfTold, draw_font_fault};
 ghost use Rattle.tt_metrics.specs.Metrics.{glyphs_of};
-ghost use Rattle.tt_strike.specs.Defects.{IsLineDefect, TellsDefects};
+ghost use Rattle.tt_strike.specs.Defects.{IsMadeDefect, TellsDefects};
 ghost use Rattle.tt_strike.specs.Fitted.{HasFittedUnits, outlines_made};
 ghost use Rattle.tt_strike.specs.Makers.{job_at};
 ghost use Rattle.tt_strike.specs.Refusals.{refusal};
@@ -13,7 +13,7 @@ ghost use Rattle.tt_strike.specs.Work.{is_bounded};
 
 use crate::distinct_glyphs::{DistinctGlyphs, distinct};
 use crate::sized::SizedFace;
-use crate::work::charge_points;
+use crate::work::charge_asked;
 use tt_core::DrawFault;
 use tt_picture::{Cache, FittedGlyph, fit_glyphs};
 
@@ -30,8 +30,8 @@ pub struct FittedUnits {
 
 impl<'f, 'a> SizedFace<'f, 'a> {
     /// The distinct glyphs of some units, fitted; only where work is bounded. Each comes from the cache where its cost is
-    /// left, else it is made. Errors, the first of: those of loca and glyf, of the programs; WorkLarge of the points;
-    /// those of the glyphs in the order of the units. Memory may come at any allocation.
+    /// left, else it is made. Errors, the first of: those of loca and glyf, of the programs; WorkLarge of the points, and
+    /// of the deltas; those of the glyphs in the order of the units. Memory may come at any allocation.
     pub fn fit_units(
         &mut self,
         units: &[(u16, u32)],
@@ -44,7 +44,7 @@ impl<'f, 'a> SizedFace<'f, 'a> {
         ensures fitted { IfOk result (HasFittedUnits self.old.face self.old.ppem self.old.fit (map (λ g. g.0) units.now)) }
         ensures room { IfOk result (λ t. length t.places.items ≡ glyphs_of self.old.face.metrics) }
         ensures stops { IfTold refusal result (λ r. outlines_made self.old.face self.old.ppem self.old.fit (map (λ g. g.0) units.now) ≡ Err r) }
-        ensures defects { TellsDefects draw_font_fault (IsLineDefect self.old.face (job_at self.old.ppem self.old.fit) (map (λ g. g.0) units.now)) result }
+        ensures defects { TellsDefects draw_font_fault (IsMadeDefect self.old.face (job_at self.old.ppem self.old.fit) (map (λ g. g.0) units.now)) result }
         ensures same { self.new ≡ self.old }
     {
         let source = self.source;
@@ -53,7 +53,7 @@ impl<'f, 'a> SizedFace<'f, 'a> {
         let begun = fitter.work();
         let met = distinct(source.alloc, &mut self.table, count, units)?;
         let DistinctGlyphs { places, numbers } = met;
-        charge_points(source.fit, &mut fitter, &numbers, cache)?;
+        charge_asked(source.fit, &mut fitter, &numbers, cache)?;
         let fitted = fit_glyphs(source.alloc, &mut fitter, &numbers, cache)?;
         let left = fitter.work();
         self.maker.give_back(fitter, begun);

@@ -6,7 +6,7 @@ ghost use Rattle.tt_core.specs.Outcomes.{GivesUnless, draw_font_fault};
 ghost use Rattle.tt_cmap.specs.Maps.{units_by};
 ghost use Rattle.tt_line.specs.Layout.{text_glyphs};
 ghost use Rattle.tt_strike.specs.Defects.{IsLineDefect, TellsDefects};
-ghost use Rattle.tt_strike.specs.Layouts.{IsNotMemory, TellsMadeDefects, layout_by, layout_outcome, pens_at, pens_outcome, size_outcome, steps_outcome};
+ghost use Rattle.tt_strike.specs.Layouts.{HasLayoutDefect, IsNotMemory, ReadsNoGlyph, layout_by, layout_outcome, pens_at, pens_outcome, size_outcome, steps_outcome};
 ghost use Rattle.tt_strike.specs.Refusals.{refusal};
 ghost use Rattle.tt_strike.specs.Strikes.{job_by};
 ghost use Rattle.tt_strike.specs.Work.{is_bounded};
@@ -18,7 +18,7 @@ use crate::work::is_bounded;
 use std::alloc::{AllocError, Global};
 use tt_cmap::{CharacterMap, TextUnit};
 use tt_core::DrawFault;
-use tt_line::{LineSize, advance_steps, size_by_advances, size_by_steps};
+use tt_line::{LineSize, size_by_advances, size_by_steps};
 use tt_picture::Cache;
 
 /// The layout of a text, in pixels.
@@ -92,7 +92,8 @@ fn pens_at(
 
 impl<'f, 'a> SizedFace<'f, 'a> {
     /// The glyph of each unit of a text with its step, by the glyphs, which are made; only where work is bounded.
-    /// Errors, the first of: those of loca and glyf, of the programs; WorkLarge of the points; those of the glyphs.
+    /// Errors, the first of: those of loca and glyf, of the programs; WorkLarge of the points, and of the deltas; those of
+    /// the glyphs.
     /// Memory may come at any allocation.
     fn made_steps(&mut self, text: &str) -> Result<Vec<(u16, u32)>, DrawFault>
         requires text { length (chars text.now) ≤ text_limit }
@@ -107,49 +108,53 @@ impl<'f, 'a> SizedFace<'f, 'a> {
         Ok(steps)
     }
 
-    /// The glyph of each unit of a text with its step. Errors: those of `made_steps` where work is bounded; Memory.
+    /// The glyph of each unit of a text with its step. Errors: those of `made_steps` where work is bounded, else those of
+    /// `unit_steps`.
     fn steps(&mut self, text: &str) -> Result<Vec<(u16, u32)>, DrawFault>
         requires text { length (chars text.now) ≤ text_limit }
         ensures exact { GivesUnless refusal (λ v. v.items) result (steps_outcome self.old.face (job_by self.old text.now 0)) }
         ensures few { IfOk result (λ v. length v.items ≤ text_limit) }
-        ensures defects { TellsMadeDefects (is_bounded self.old.fit) (IsLineDefect self.old.face (job_by self.old text.now 0) (text_glyphs self.old.face.cmap text.now)) result }
+        ensures defects { TellsDefects draw_font_fault (HasLayoutDefect self.old.face (job_by self.old text.now 0) (text_glyphs self.old.face.cmap text.now)) result }
         ensures same { self.new ≡ self.old }
     {
         let source = self.source;
         if is_bounded(source.fit) {
             return self.made_steps(text);
         }
-        Ok(advance_steps(source.alloc, &mut self.known, text)?)
+        Ok(self.unit_steps(text)?)
     }
 
     /// Tests a margin and a text, and gives the size of the text's line. Without a bound of work no memory is taken, and
-    /// no glyph is read. Errors: as `layout`.
+    /// no glyph is read, but at an instance without HVAR. Errors: as `layout`.
     fn line_size(&mut self, text: &str, margin: u32) -> Result<LineSize, DrawFault>
         ensures exact { GivesUnless refusal (λ z. z) result (size_outcome self.old.face (job_by self.old text.now margin)) }
-        ensures memory { is_bounded self.old.fit ≡ false → IfErr result IsNotMemory }
-        ensures defects { TellsMadeDefects (is_bounded self.old.fit) (IsLineDefect self.old.face (job_by self.old text.now margin) (text_glyphs self.old.face.cmap text.now)) result }
+        ensures memory { ReadsNoGlyph self.old.face self.old.fit → IfErr result IsNotMemory }
+        ensures defects { TellsDefects draw_font_fault (HasLayoutDefect self.old.face (job_by self.old text.now margin) (text_glyphs self.old.face.cmap text.now)) result }
         ensures few { OnOk result (length (chars text.now) ≤ text_limit) }
         ensures same { self.new ≡ self.old }
     {
         let source = self.source;
         test_margin(margin)?;
         test_text(text)?;
-        if is_bounded(source.fit) {
-            let steps = self.made_steps(text)?;
+        if is_bounded(source.fit) || self.finds_advances() {
+            let steps = self.steps(text)?;
             return Ok(size_by_steps(source.face.metrics(), &steps, source.ppem, margin)?);
         }
+        tt_advances::laws::tables_give_advances();
+        tt_advances::laws::found_advances_are_whole();
         Ok(size_by_advances(&mut self.known, text, margin)?)
     }
 
     /// The layout of a text of at most 4,096 characters with a margin of 0 to 64 pixels: the size of the picture that
     /// does not grow, its base line, and its distance from a next line. Errors, the first of: MarginRange, TextLong;
-    /// with `Fit::Best` those of loca and glyf, of the programs, WorkLarge of the points, and those of the glyphs;
-    /// EmptyPicture, PictureLarge. Only with `Fit::Best` may Memory come, and are glyphs and programs read.
+    /// with `Fit::Best` those of loca and glyf, of the programs, WorkLarge of the points and of the deltas, and those of the
+    /// glyphs; at an instance without HVAR with any other fit those of the advances; EmptyPicture, PictureLarge. Only with
+    /// `Fit::Best`, or at such an instance, may Memory come, and are glyphs read.
     #[tactic(auto, unfolding(crate::specs::Layouts::layout_outcome))]
     pub fn layout(&mut self, text: &str, margin: u32) -> Result<Layout, DrawFault>
         ensures exact { GivesUnless refusal (λ l. l) result (layout_outcome self.old.face (job_by self.old text.now margin)) }
-        ensures memory { is_bounded self.old.fit ≡ false → IfErr result IsNotMemory }
-        ensures defects { TellsMadeDefects (is_bounded self.old.fit) (IsLineDefect self.old.face (job_by self.old text.now margin) (text_glyphs self.old.face.cmap text.now)) result }
+        ensures memory { ReadsNoGlyph self.old.face self.old.fit → IfErr result IsNotMemory }
+        ensures defects { TellsDefects draw_font_fault (HasLayoutDefect self.old.face (job_by self.old text.now margin) (text_glyphs self.old.face.cmap text.now)) result }
         ensures same { self.new ≡ self.old }
     {
         let face = self.face();
@@ -162,7 +167,7 @@ impl<'f, 'a> SizedFace<'f, 'a> {
     pub fn pens(&mut self, text: &str, margin: u32) -> Result<TextPens, DrawFault>
         ensures exact { GivesUnless refusal (λ p. p.pens.items) result (pens_outcome self.old.face (job_by self.old text.now margin)) }
         ensures layout { IfOk result (λ p. layout_outcome self.old.face (job_by self.old text.now margin) ≡ Ok p.layout) }
-        ensures defects { TellsMadeDefects (is_bounded self.old.fit) (IsLineDefect self.old.face (job_by self.old text.now margin) (text_glyphs self.old.face.cmap text.now)) result }
+        ensures defects { TellsDefects draw_font_fault (HasLayoutDefect self.old.face (job_by self.old text.now margin) (text_glyphs self.old.face.cmap text.now)) result }
         ensures same { self.new ≡ self.old }
     {
         let source = self.source;

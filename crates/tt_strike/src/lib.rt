@@ -4,6 +4,7 @@
 mod distinct_glyphs;
 mod drawing;
 mod enlarging;
+mod finding;
 mod fitting;
 mod growing;
 mod having;
@@ -43,4 +44,4 @@ pub use strike::Strike;
 pub use tt_core::DrawFault;
 pub use tt_face::{Face, Heights, LineRules, Opening};
 pub use tt_picture::{InkBox, Picture, Report, Unfitted};
-pub use work::{CHORD_LIMIT, charge_points, crossings_allowed, is_bounded};
+pub use work::{CHORD_LIMIT, charge_asked, crossings_allowed, is_bounded};

@@ -12,7 +12,7 @@ use crate::programs::open_programs;
 use crate::source::FitterSource;
 use std::mem;
 use tt_core::{Fault, FontFault};
-use tt_fit::{Fitter, Instance};
+use tt_fit::Fitter;
 
 /// The state of a strike's fitter.
 #[derive(Drop)]
@@ -25,7 +25,7 @@ pub enum Maker<'a> {
 }
 
 impl<'f, 'a> FitterSource<'f, 'a> {
-    /// The fitter. Errors, the first of: those of loca and glyf; TableRange of the control values and the two programs;
+    /// The fitter, at the face's instance. Errors, the first of: those of loca and glyf; TableRange of the control values and the two programs;
     /// those of running the two. Memory may come at any allocation. Not inline: only a strike's first line opens its
     /// fitter, and the frame of each line would have room for the tables.
     #[cold]
@@ -45,7 +45,7 @@ impl<'f, 'a> FitterSource<'f, 'a> {
             metrics,
             glyf,
             programs,
-            Instance::none(),
+            self.face.instance(),
             self.ppem,
             self.fit,
         )?)

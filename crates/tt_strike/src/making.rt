@@ -87,8 +87,8 @@ pub(crate) fn tested_edges(
 
 impl<'f, 'a> SizedFace<'f, 'a> {
     /// The line of a text laid out by the steps of its glyphs, which are made first; only where work is bounded. Errors,
-    /// the first of: MarginRange, TextLong; those of loca and glyf, of the programs; WorkLarge of the points; those of
-    /// the glyphs in the order of the text; EmptyPicture, PictureLarge; WorkLarge of the chords, and of the crossings.
+    /// the first of: MarginRange, TextLong; those of loca and glyf, of the programs; WorkLarge of the points, and of
+    /// the deltas; those of the glyphs in the order of the text; EmptyPicture, PictureLarge; WorkLarge of the chords, and of the crossings.
     /// Memory may come at any allocation.
     fn make_by_steps(
         &mut self,
@@ -120,8 +120,7 @@ impl<'f, 'a> SizedFace<'f, 'a> {
     }
 
     /// The line of a text laid out by advances, and then its glyphs; only where work is not bounded. Errors, the first
-    /// of: MarginRange, TextLong; EmptyPicture, PictureLarge; those of `tested_glyphs`. Memory may come at any
-    /// allocation.
+    /// of: those of `lay_out`; those of `tested_glyphs`. Memory may come at any allocation.
     fn make_by_advances(
         &mut self,
         text: &str,

@@ -3,6 +3,7 @@
 ghost use Rattle.std.specs.Prelude.{◌≡◌, ◌≤◌, IfErr, IfOk};
 ghost use Rattle.tt_core.specs.Limits.{size_limit};
 ghost use Rattle.tt_core.specs.Outcomes.{Gives};
+ghost use Rattle.tt_face.specs.Faces.{finds_advances};
 ghost use Rattle.tt_strike.specs.Job.{size_tested, IsSizeRefusal};
 
 use crate::job::test_size;
@@ -79,6 +80,13 @@ impl<'f, 'a> SizedFace<'f, 'a> {
         ensures { result.now ≡ self.now.face }
     {
         self.source.face
+    }
+
+    /// Whether the data of glyphs give their advances: at an instance without HVAR.
+    pub fn finds_advances(&self) -> bool
+        ensures { result ≡ finds_advances self.now.face }
+    {
+        self.source.face.finds_advances()
     }
 
     /// The size in pixels per em.

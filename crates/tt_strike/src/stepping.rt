@@ -6,7 +6,7 @@ ghost use Rattle.tt_core.specs.Outcomes.{IfTold, draw_font_fault};
 ghost use Rattle.tt_fit.specs.Fitting.{Fitter};
 ghost use Rattle.tt_line.specs.Layout.{text_glyphs};
 ghost use Rattle.tt_metrics.specs.Metrics.{glyphs_of};
-ghost use Rattle.tt_strike.specs.Defects.{IsLineDefect, TellsDefects};
+ghost use Rattle.tt_strike.specs.Defects.{IsMadeDefect, TellsDefects};
 ghost use Rattle.tt_strike.specs.Fitted.{AreFittedUnits, outlines_made};
 ghost use Rattle.tt_strike.specs.Makers.{job_at};
 ghost use Rattle.tt_strike.specs.Picture.{made_line};
@@ -33,7 +33,7 @@ pub(crate) struct FittedText {
 impl<'f, 'a> SizedFace<'f, 'a> {
     /// The glyph of each unit of a text, with its advance. Error: memory ran out.
     /// `fitted_text` is apart (for the prover): that function has no field of the strike.
-    fn advances(&mut self, text: &str) -> Result<Vec<(u16, u32)>, AllocError>
+    pub(crate) fn advances(&mut self, text: &str) -> Result<Vec<(u16, u32)>, AllocError>
         requires text { length (chars text.now) ≤ text_limit }
         ensures glyphs { IfOk result (λ v. map (λ g. g.0) v.items ≡ text_glyphs self.old.face.cmap text.now) }
         ensures known { IfOk result (λ v. All (λ g. g.0 < glyphs_of self.old.face.metrics) v.items) }
@@ -54,7 +54,7 @@ impl<'f, 'a> SizedFace<'f, 'a> {
         ensures known { IfOk result (λ t. All (λ g. g.0 < glyphs_of self.old.face.metrics) t.steps.items) }
         ensures few { IfOk result (λ t. length t.steps.items ≤ text_limit) }
         ensures stops { IfTold refusal result (λ r. outlines_made self.old.face self.old.ppem self.old.fit (text_glyphs self.old.face.cmap text.now) ≡ Err r) }
-        ensures defects { TellsDefects draw_font_fault (IsLineDefect self.old.face (job_at self.old.ppem self.old.fit) (text_glyphs self.old.face.cmap text.now)) result }
+        ensures defects { TellsDefects draw_font_fault (IsMadeDefect self.old.face (job_at self.old.ppem self.old.fit) (text_glyphs self.old.face.cmap text.now)) result }
         ensures same { self.new ≡ self.old }
     {
         let face = self.face();

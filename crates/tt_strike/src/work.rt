@@ -2,9 +2,10 @@
 
 ghost use Rattle.std.specs.List.{sum_by};
 ghost use Rattle.std.specs.Prelude.{◌≡◌, ℕ, ◌<◌, ◌≤◌, ◌-◌, ◌*◌, ◌^◌, true, All, List, IfOk, OnOk, Ok};
-ghost use Rattle.tt_core.specs.Limits.{crossing_limit, point_work_limit};
+ghost use Rattle.tt_core.specs.Limits.{crossing_limit};
 ghost use Rattle.tt_core.specs.Outcomes.{Gives, GivesUnless, each};
 ghost use Rattle.tt_fit.specs.Counting.{counted, left_of, points_asked};
+ghost use Rattle.tt_fit.specs.DeltaCounting.{deltas_asked};
 ghost use Rattle.tt_fit.specs.Fitting.{Fitter, charged_fitter};
 ghost use Rattle.tt_strike.specs.Costs.{cost_of};
 ghost use Rattle.tt_picture.specs.Cached.{IsCacheFor};
@@ -13,15 +14,18 @@ ghost use Rattle.tt_picture.specs.Lines.{HasGlyphsOf};
 ghost use Rattle.tt_picture.specs.Pixels.{Shape};
 ghost use Rattle.tt_picture.specs.Shapes.{crossings_in, glyph_shape};
 ghost use Rattle.tt_strike.specs.Refusals.{as_job, refusal};
-ghost use Rattle.tt_strike.specs.Work.{crossings_allowed, is_bounded, point_work, work_tested};
+ghost use Rattle.tt_strike.specs.Work.{counts_tested, crossings_allowed, deltas_of_all, is_bounded, points_of_all, work_of_counts, work_tested};
 
 use std::alloc::AllocError;
 use tt_core::{CROSSING_LIMIT, DrawFault, JobFault, POINT_WORK_LIMIT, WORK_LIMIT};
-use tt_fit::{Fit, Fitter};
+use tt_fit::{DELTA_LIMIT, Fit, Fitter};
 use tt_picture::{Cache, Glyphs, crossings};
 
 /// The work that each point of a line's glyphs takes.
 const POINT_WORK: u64 = 40;
+
+/// The work that each delta takes that an instance has for the line's glyphs.
+const DELTA_WORK: u64 = 4;
 
 /// The chords that a line's glyphs may have, each glyph once.
 pub const CHORD_LIMIT: usize = 32_000_000;
@@ -42,10 +46,11 @@ pub fn is_bounded(fit: Fit) -> bool
     }
 }
 
-/// Charges the points of a line's distinct glyphs to its work, which is bounded. The cache has those of cached glyphs.
-/// Errors: WorkLarge, where they are too many; Memory.
-#[tactic(auto, unfolding(crate::specs::Work::work_tested))]
-pub fn charge_points(
+/// Charges the points and the deltas of a line's distinct glyphs to its work, which is bounded, before a glyph is made. The
+/// cache has the points of cached glyphs. Headers state the deltas: there are none without an instance. Errors: WorkLarge,
+/// where points or deltas are too many; Memory.
+#[tactic(auto, unfolding(crate::specs::Work::counts_tested, crate::specs::Work::work_tested))]
+pub fn charge_asked(
     fit: Fit,
     fitter: &mut Fitter,
     numbers: &[u16],
@@ -54,16 +59,17 @@ pub fn charge_points(
     requires known { All (λ g. g < fitter.old.tables.glyphs) numbers.now }
     requires cache { IsCacheFor fitter.old cache.now }
     requires bounded { is_bounded fit ≡ true }
-    ensures exact { GivesUnless refusal (λ u. u) result (as_job (work_tested fit point_work_limit (sum_by (points_asked fitter.old.tables fitter.old.levels) numbers.now))) }
-    ensures charged { OnOk result (fitter.new ≡ charged_fitter fitter.old (point_work * sum_by (points_asked fitter.old.tables fitter.old.levels) numbers.now)) }
+    ensures exact { GivesUnless refusal (λ u. u) result (as_job (counts_tested fit (points_of_all fitter.old numbers.now) (deltas_of_all fitter.old numbers.now))) }
+    ensures charged { OnOk result (fitter.new ≡ charged_fitter fitter.old (work_of_counts (points_of_all fitter.old numbers.now) (deltas_of_all fitter.old numbers.now))) }
 {
-    match points_left(fitter, numbers, POINT_WORK_LIMIT, cache)? {
-        Some(left) => {
-            fitter.charge(POINT_WORK * (POINT_WORK_LIMIT - left));
-            Ok(())
-        }
-        None => Err(DrawFault::Job(JobFault::WorkLarge)),
-    }
+    let Some(points) = points_left(fitter, numbers, POINT_WORK_LIMIT, cache)? else {
+        return Err(DrawFault::Job(JobFault::WorkLarge));
+    };
+    let Some(deltas) = deltas_left(fitter, numbers, DELTA_LIMIT)? else {
+        return Err(DrawFault::Job(JobFault::WorkLarge));
+    };
+    fitter.charge(POINT_WORK * (POINT_WORK_LIMIT - points) + DELTA_WORK * (DELTA_LIMIT - deltas));
+    Ok(())
 }
 
 /// How many crossings a line may have by the work that its programs left.
@@ -115,6 +121,33 @@ fn points_left(
         }
     }
     Ok(Some(left))
+}
+
+/// What remains of `most` after the deltas of some glyphs; None where they have more. Error: out of memory.
+fn glyph_deltas_left(fitter: &Fitter, glyphs: &[u16], most: u64) -> Result<Option<u64>, AllocError>
+    requires known { All (λ g. g < fitter.now.tables.glyphs) glyphs.now }
+    ensures { IfOk result (λ left. left ≡ left_of most (sum_by (deltas_asked fitter.now.instance fitter.now.tables fitter.now.levels) glyphs.now)) }
+{
+    let mut left = most;
+    for glyph in glyphs {
+        match fitter.deltas(*glyph, left)? {
+            Some(deltas) => left -= deltas,
+            None => return Ok(None),
+        }
+    }
+    Ok(Some(left))
+}
+
+/// What remains of `most` after the deltas of the control values and of some glyphs; None where they have more. Error: out
+/// of memory.
+fn deltas_left(fitter: &Fitter, glyphs: &[u16], most: u64) -> Result<Option<u64>, AllocError>
+    requires known { All (λ g. g < fitter.now.tables.glyphs) glyphs.now }
+    ensures { IfOk result (λ left. left ≡ left_of most (deltas_of_all fitter.now glyphs.now)) }
+{
+    match most.checked_sub(fitter.control_deltas()) {
+        Some(left) => glyph_deltas_left(fitter, glyphs, left),
+        None => Ok(None),
+    }
 }
 
 /// Counts the crossings of a line's glyphs at their pens, where work is bounded; else 0. Error: WorkLarge, where they are

@@ -5,6 +5,7 @@ use Rattle.tt_core.specs.Directory.{HasNo}
 use Rattle.tt_core.specs.Limits.{crossing_limit}
 use Rattle.tt_core.specs.Outcomes.{each}
 use Rattle.tt_face.specs.declared.rules.Opening.{Opening}
+use Rattle.tt_face.specs.Instance.{Asked}
 use Rattle.tt_core.specs.declared.fault.JobFault.TheVariants as fault
 use Rattle.tt_fit.specs.declared.programs.Fit.TheVariants as fit
 use Rattle.tt_fit.specs.Fitting.{Fitter}
@@ -34,12 +35,12 @@ use Rattle.tt_scan_gaps.specs.Gaps.{gives_way}
 
 -- a font file that gives a job's picture has no defect for the job and its reading
 abbrev pub DrawnFontsAreWhole : Type 0
-DrawnFontsAreWhole = (r : Opening) (a : Job) (file : List ℕ) (i : Image) → pictured r a file ≡ Ok i
-    → HasNo (IsRunDefect r a file)
+DrawnFontsAreWhole = (r : Opening) (asked : Option Asked) (a : Job) (file : List ℕ) (i : Image) → pictured r asked a file ≡ Ok i
+    → HasNo (IsRunDefect r asked a file)
 
 -- with a fit that does not fall back, no glyph is listed as unfitted
 abbrev pub OthersListNothing : Type 0
-OthersListNothing = (r : Opening) (a : Job) (file : List ℕ) (entries : List Unfitted) → report_of r a file ≡ Ok entries
+OthersListNothing = (r : Opening) (asked : Option Asked) (a : Job) (file : List ℕ) (entries : List Unfitted) → report_of r asked a file ≡ Ok entries
     → falls_back a.fit ≡ false → entries ≡ []
 
 -- a margin greater by m moves each pixel by m, and changes nothing else
@@ -110,8 +111,8 @@ pub record IsByEdges (a : Job) (face : Face) (i : Image) : Type 0 where
   pub drawn : i ≡ edges_picture (frame_of line a.margin) glyphs
 
 abbrev pub OthersDrawByEdges : Type 0
-OthersDrawByEdges = (r : Opening) (a : Job) (file : List ℕ) (i : Image) → a.fit ≢ fit.Best → pictured r a file ≡ Ok i
-    → ByFace (λ face a. IsByEdges a face i) r a file
+OthersDrawByEdges = (r : Opening) (asked : Option Asked) (a : Job) (file : List ℕ) (i : Image) → a.fit ≢ fit.Best → pictured r asked a file ≡ Ok i
+    → ByFace (λ face a. IsByEdges a face i) r asked a file
 
 -- worked values: a stem between the centres of two columns, with its dropouts filled by scan type 0 and without
 stem_edge : ℕ → ℕ → ℕ → ℕ → Edge

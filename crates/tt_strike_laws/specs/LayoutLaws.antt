@@ -1,6 +1,6 @@
 -- Laws of the definitions of layouts. Their sums, and what they are read from.
 use Rattle.std.specs.Prelude.{◌≡◌, ℕ, ◌+◌, ◌*◌, ◌<◌, false, pos, ◌+ℤ◌, List, get_or, length, map, sum, None, Ok}
-use Rattle.tt_face.specs.Faces.{Face}
+use Rattle.tt_face.specs.Faces.{Face, finds_advances}
 use Rattle.tt_line.specs.Layout.{pen_at}
 use Rattle.tt_strike.specs.declared.layouts.Layout.{Layout}
 use Rattle.tt_strike.specs.declared.layouts.Pen.{Pen}
@@ -11,10 +11,12 @@ use Rattle.tt_strike.specs.Measures.{Measure, measured}
 use Rattle.tt_strike_laws.specs.StepLaws.{character_in}
 use Rattle.tt_strike.specs.Work.{lays_after_glyphs}
 
--- without best, whether glyphs or programs have defects does not matter: the layout depends on the metrics and the map
+-- without best, whether glyphs or programs have defects does not matter: but for an instance without HVAR the layout
+-- depends on the metrics and the map
 abbrev pub NoGlyphIsRead : Type 0
-NoGlyphIsRead = (face other : Face) (a : Job) → lays_after_glyphs a.fit ≡ false → other.metrics ≡ face.metrics
-    → other.cmap ≡ face.cmap → (layout_outcome other a ≡ layout_outcome face a) × (pens_outcome other a ≡ pens_outcome face a)
+NoGlyphIsRead = (face other : Face) (a : Job) → lays_after_glyphs a.fit ≡ false → finds_advances face ≡ false
+    → finds_advances other ≡ false → other.metrics ≡ face.metrics → other.cmap ≡ face.cmap
+    → (layout_outcome other a ≡ layout_outcome face a) × (pens_outcome other a ≡ pens_outcome face a)
 
 -- the columns to the next pen, in order
 abbrev pub advances_in : List Pen → List ℕ

@@ -1,8 +1,8 @@
 -- Laws of steps. With best a character's step is that of its glyph, and the measure of a text tells it. With any other
 -- fit a line is laid out by advances.
-use Rattle.std.specs.Prelude.{◌≡◌, ◌≢◌, refl, ℕ, ◌+◌, ◌<◌, true, ℤ, pos, ◌+ℤ◌, [], ◌∷◌, length, map, get_or, None, Ok, Err}
+use Rattle.std.specs.Prelude.{◌≡◌, ◌≢◌, refl, ℕ, ◌+◌, ◌<◌, true, false, ℤ, pos, ◌+ℤ◌, [], ◌∷◌, length, map, get_or, None, Ok, Err}
 use Rattle.tt_core.specs.Faults.{Fault}
-use Rattle.tt_face.specs.Faces.{Face}
+use Rattle.tt_face.specs.Faces.{Face, finds_advances}
 use Rattle.tt_fit.specs.declared.programs.Fit.TheVariants as fit
 use Rattle.tt_fit.specs.Fitting.{Fitter}
 use Rattle.tt_fit.specs.outline.Outline.{Outline}
@@ -12,10 +12,9 @@ use Rattle.tt_arc.specs.declared.rule.ChordRule.{ChordRule}
 use Rattle.tt_picture.specs.Shapes.{contours_of, edges_at, extents_of}
 use Rattle.tt_strike.specs.Job.{Job}
 use Rattle.tt_strike.specs.Measures.{Measure, measured}
-use Rattle.tt_strike.specs.Picture.{outlines_in, placed_by_steps, setting_in, text_placed}
+use Rattle.tt_strike.specs.Picture.{outlines_in, placed_by_steps, placed_by_units, setting_in, text_placed}
 use Rattle.tt_strike.specs.Refusals.{as_job, font}
-use Rattle.tt_strike.specs.Work.{points_in, work_tested}
-use Rattle.tt_core.specs.Limits.{point_work_limit}
+use Rattle.tt_strike.specs.Work.{asked_tested}
 use Rattle.tt_strike.specs.declared.measuring.CharacterMeasure.{CharacterMeasure}
 
 -- a character of a measure by its number
@@ -33,9 +32,17 @@ abbrev pub MeasureTellsSteps : Type 0
 MeasureTellsSteps = (face : Face) (a : Job) (m : Measure) (i : ℕ) → measured face a ≡ Ok m → i + 1 < length m.characters
     → (character_in m (i + 1)).pen ≡ (character_in m i).pen +ℤ pos (character_in m i).advance
 
--- with any fit but best a text is laid out by advances
+-- with any fit but best a text is laid out by advances: at an instance without HVAR by those that are found
+abbrev pub OthersLayByUnits : Type 0
+OthersLayByUnits = (face : Face) (a : Job) → a.fit ≢ fit.Best → text_placed face a ≡ placed_by_units face a
+
+-- and elsewhere by those of the tables; so at the font's default
 abbrev pub OthersLayByAdvances : Type 0
-OthersLayByAdvances = (face : Face) (a : Job) → a.fit ≢ fit.Best
+OthersLayByAdvances = (face : Face) (a : Job) → a.fit ≢ fit.Best → finds_advances face ≡ false
+    → text_placed face a ≡ as_job (placement face.metrics face.cmap a.text a.ppem a.margin)
+
+abbrev pub DefaultsLayByAdvances : Type 0
+DefaultsLayByAdvances = (face : Face) (a : Job) → a.fit ≢ fit.Best → face.instance ≡ None
     → text_placed face a ≡ as_job (placement face.metrics face.cmap a.text a.ppem a.margin)
 
 -- with best it is laid out by steps, and the fault of a glyph is told whatever the extent of the picture would be
@@ -44,7 +51,7 @@ BestLaysBySteps = (face : Face) (a : Job) → a.fit ≡ fit.Best → text_placed
 
 abbrev pub GlyphsBeforeExtent : Type 0
 GlyphsBeforeExtent = (face : Face) (a : Job) (s : Fitter) (f : Fault) → a.fit ≡ fit.Best → setting_in face a ≡ Ok s
-    → work_tested a.fit point_work_limit (points_in s (text_glyphs face.cmap a.text)) ≡ Ok tt
+    → asked_tested a.fit s (text_glyphs face.cmap a.text) ≡ Ok tt
     → outlines_in s (text_glyphs face.cmap a.text) ≡ Err f → text_placed face a ≡ Err (font f)
 
 -- an outline moved right, with the ends of its advance

@@ -4,7 +4,7 @@ ghost use Rattle.tt_face.specs.Files.{FacesAreWhole, ReadFacesAreWhole};
 ghost use Rattle.tt_strike_laws.specs.Laws.{DrawnFontsAreWhole, OthersListNothing, MarginMoves, MeasuredAsDrawn, BoundedLinesCrossFew, GlyphsByThemselves, UnfilledAreEdges, OthersFillNone, OthersDrawByEdges, GrownRefusals, SidesMove, SidesRefuseNothing};
 ghost use Rattle.tt_strike_laws.specs.LayoutLaws.{LaidOutAsMeasured, LayoutsAddUp, NoGlyphIsRead};
 ghost use Rattle.tt_strike_laws.specs.ReadingLaws.{FacesDrawAlike};
-ghost use Rattle.tt_strike_laws.specs.StepLaws.{BestLaysBySteps, EqualGlyphsStepAlike, GlyphsBeforeExtent, MeasureTellsSteps, MovedOutlinesAgree, OthersLayByAdvances};
+ghost use Rattle.tt_strike_laws.specs.StepLaws.{BestLaysBySteps, DefaultsLayByAdvances, EqualGlyphsStepAlike, GlyphsBeforeExtent, MeasureTellsSteps, MovedOutlinesAgree, OthersLayByAdvances, OthersLayByUnits};
 ghost use Rattle.tt_strike_laws.specs.UnhintedSteps.{UnhintedStepsAreNear};
 ghost use Rattle.tt_strike_laws.specs.InkLaws.{GrownAddsFewest, GrownCutsNone, GrownMeasuredAsDrawn, InkIsDrawn, MeasureHoldsInk};
 
@@ -29,7 +29,9 @@ pub fn faces_draw_alike()
 /// Lemma: with every fit but `Fit::Best` a text is laid out by advances. With `Fit::Best` it is laid out by the steps of
 /// its glyphs, and a defect of a glyph is told whatever the extent of the picture would be.
 pub fn best_lays_by_steps()
+    ensures units { OthersLayByUnits }
     ensures advances { OthersLayByAdvances }
+    ensures default { DefaultsLayByAdvances }
     ensures steps { BestLaysBySteps }
     ensures order { GlyphsBeforeExtent }
 {}

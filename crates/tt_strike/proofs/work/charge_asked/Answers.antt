@@ -5,7 +5,7 @@ use Rattle.tt_core.specs.Limits.{point_work_limit}
 use Rattle.tt_fit.specs.Counting.{left_of, points_asked}
 use Rattle.tt_fit.specs.Fitting.{charged_fitter}
 use Rattle.tt_strike.specs.Work.{point_work}
-use Rattle.tt_strike.proofs.work.charge_points.Goals as goal
+use Rattle.tt_strike.proofs.work.charge_asked.Goals as goal
 
 -- what was subtracted
 by_test : (most n left : ℕ) (few : Bool) → nat_le n most ≡ few

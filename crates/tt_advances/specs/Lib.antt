@@ -1,0 +1,6 @@
+pub mod Defects
+pub mod Found
+pub mod Laws
+pub mod Lines
+pub mod Rows
+pub mod Views
