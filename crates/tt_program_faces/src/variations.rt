@@ -38,7 +38,8 @@ fn push_tag(lines: &mut Vec<u8>, tag: [u8; 4]) -> Result<(), AllocError>
     lines.push(told_character(first))?;
     lines.push(told_character(second))?;
     lines.push(told_character(third))?;
-    lines.push(told_character(fourth))
+    lines.push(told_character(fourth))?;
+    Ok(())
 }
 
 /// The values of an axis, each behind a blank. Error: memory ran out.
@@ -66,17 +67,18 @@ fn push_axis(
     push_tag(lines, axis.tag)?;
     lines.extend_from_slice(figures.as_bytes())?;
     push_name(lines, &name)?;
-    lines.push(b'\n')
+    lines.push(b'\n')?;
+    Ok(())
 }
 
 /// Appends a comma between two places. Error: memory ran out.
 fn push_comma(lines: &mut Vec<u8>, i: usize) -> Result<(), AllocError>
     ensures { OnOk result (lines.new.items ≡ lines.old.items ++ comma i) }
 {
-    if i == 0 {
-        return Ok(());
+    if i > 0 {
+        lines.push(b',')?;
     }
-    lines.push(b',')
+    Ok(())
 }
 
 /// Appends the place of a named instance on an axis, behind a comma but for the first. Error: memory ran out.
@@ -130,7 +132,8 @@ fn push_instance(
     lines.extend_from_slice(head.as_bytes())?;
     push_places(lines, alloc, fvar, k)?;
     push_name(lines, &name)?;
-    lines.push(b'\n')
+    lines.push(b'\n')?;
+    Ok(())
 }
 
 /// Appends the lines of the axes. Error: memory ran out.
