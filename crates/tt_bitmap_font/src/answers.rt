@@ -38,7 +38,14 @@ fn notes_of(alloc: Global, file: &[u8], asked: &FontFile) -> Result<String, Allo
     ensures { IfOk result (λ text. string_bytes text ≡ file_notes asked.now file.now) }
 {
     let instance = asked.instance.is_some();
-    font_notes(alloc, asked.path, file, asked.face, asked.face_given, instance)
+    font_notes(
+        alloc,
+        asked.path,
+        file,
+        asked.face,
+        asked.face_given,
+        instance,
+    )
 }
 
 /// The file of a font by a face of this font file. Errors: those of `file_bitmaps`. No error has a line.

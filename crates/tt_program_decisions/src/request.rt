@@ -105,7 +105,8 @@ impl<'a> Request<'a> {
         let mut request = self;
         match &mut request {
             Request::Map {
-                instance: place, ..
+                instance: place,
+                ..
             } => *place = instance,
             Request::Faces { .. } => {}
             Request::Text { setting, .. }

@@ -27,11 +27,7 @@ const FACES_TOLD: u32 = 256;
 ///
 /// Errors, the first of: Read, FontLarge; Font, of the place of the first face; Write. Memory may come at any
 /// allocation.
-pub fn faces<R: Source, W: Sink>(
-    alloc: Global,
-    font: &mut R,
-    out: &mut W,
-) -> Result<(), RunFault>
+pub fn faces<R: Source, W: Sink>(alloc: Global, font: &mut R, out: &mut W) -> Result<(), RunFault>
     requires font { R.has_failed font.old ≡ false }
     requires out { W.has_failed out.old ≡ false }
     ensures outcome { CallGives result (traffic_of R.left R.has_failed W.written W.has_failed font.old font.new out.old out.new) faces_wanted }

@@ -101,12 +101,7 @@ fn push_place(
 }
 
 /// Appends the places of a named instance. Error: memory ran out.
-fn push_places(
-    lines: &mut Vec<u8>,
-    alloc: Global,
-    fvar: &Fvar,
-    k: usize,
-) -> Result<(), AllocError>
+fn push_places(lines: &mut Vec<u8>, alloc: Global, fvar: &Fvar, k: usize) -> Result<(), AllocError>
     requires { k < instance_count fvar.now }
     ensures { OnOk result (lines.new.items ≡ lines.old.items ++ places fvar.now k) }
 {
@@ -137,12 +132,7 @@ fn push_instance(
 }
 
 /// Appends the lines of the axes. Error: memory ran out.
-fn push_axes(
-    lines: &mut Vec<u8>,
-    alloc: Global,
-    face: &Face,
-    fvar: &Fvar,
-) -> Result<(), AllocError>
+fn push_axes(lines: &mut Vec<u8>, alloc: Global, face: &Face, fvar: &Fvar) -> Result<(), AllocError>
     ensures { OnOk result (lines.new.items ≡ lines.old.items ++ axis_lines face.now.directory fvar.now) }
 {
     for i in 0..fvar.axis_count() {

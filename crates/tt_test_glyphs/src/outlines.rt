@@ -66,15 +66,7 @@ fn put_face(alloc: Global, line: &mut Line, face: &Face, size: u32, fit: Fit, wo
         return;
     }
     let metrics = face.metrics();
-    match Fitter::new(
-        alloc,
-        metrics,
-        glyphs,
-        programs,
-        face.instance(),
-        size,
-        fit,
-    ) {
+    match Fitter::new(alloc, metrics, glyphs, programs, face.instance(), size, fit) {
         Ok(fitter) => put_glyphs(alloc, line, &fitter, metrics.glyphs(), word),
         Err(_) => line.refuse("the font's programs are refused"),
     }

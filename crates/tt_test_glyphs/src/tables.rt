@@ -51,12 +51,7 @@ pub(crate) fn face_at<'a>(font: &'a [u8], axes: &[AxisValue]) -> Option<Face<'a>
         return None;
     }
     let asked = AskedInstance { named: None, axes };
-    Face::read_at(
-        font,
-        Opening::plain(Reading::Wide { face: 0 }),
-        Some(asked),
-    )
-    .ok()
+    Face::read_at(font, Opening::plain(Reading::Wide { face: 0 }), Some(asked)).ok()
 }
 
 /// Notes that memory was refused for a glyph.
