@@ -11,7 +11,7 @@ use Rattle.tt_advice.specs.declared.hint.Hint.TheVariants as hint
 use Rattle.tt_advice.specs.Hints.{hint_line}
 use Rattle.tt_advice.specs.Kinds.{begins}
 
--- a table `fvar`, where no instance was asked for
+-- a table `fvar`, unless an instance was requested
 abbrev pub variable_hint : List ℕ → ℕ → Bool → Option Hint
 variable_hint file n instance =
     if instance || not (has_record file n (codes "fvar")) then None else Some (hint.Fixed fixed.Variable)
@@ -24,7 +24,7 @@ abbrev pub first_of : Option ℕ → Option Hint
 first_of None = None
 first_of (Some count) = if nat_lt 1 count then Some (hint.FirstOf count) else None
 
--- a collection of more than one face, of which none was asked for
+-- a collection of more than one face, and none was requested
 abbrev pub first_hint : List ℕ → Bool → Option Hint
 first_hint file given = if given then None else first_of (count_in file)
 
@@ -32,7 +32,7 @@ abbrev pub hint_told : List ℕ → Option Hint → List ℕ
 hint_told path None = []
 hint_told path (Some h) = hint_line path h
 
--- the lines about a font, by its path, its bytes, its face's number, and whether the face and an instance were asked for
+-- the lines about a font, by its path, its bytes, its face's number, and whether the face and an instance were requested
 unfoldable pub font_notes : List ℕ → List ℕ → ℕ → Bool → Bool → List ℕ
 font_notes path file n given instance =
     hint_told path (variable_hint file n instance) ++ hint_told path (first_hint file given)

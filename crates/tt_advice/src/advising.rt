@@ -73,7 +73,7 @@ fn count_advice(count: u32) -> Hint
     }
 }
 
-/// The advice about a file without the face that was asked for.
+/// The advice about a file without the requested face.
 #[tactic(auto, unfolding(crate::specs::Advice::face_advice))]
 fn face_advice(file: &[u8]) -> Hint
     ensures { result ≡ face_advice file.now }

@@ -13,7 +13,7 @@ use tt_core::Fault;
 pub enum Hint {
     /// Words without a number or a name.
     Fixed(FixedHint),
-    /// The file is a collection of so many faces, and has not the face that was asked for.
+    /// The file is a collection of so many faces, and has not the requested face.
     Faces(u32),
     /// The table of this fault is missing.
     Lacks(Fault),
@@ -62,7 +62,7 @@ pub enum FixedHint {
     NoFont,
     /// A collection of an unknown version.
     Version,
-    /// The file has one face, and another was asked for.
+    /// The file has one face, and another was requested.
     NoCollection,
     /// A collection without a face.
     NoFaces,

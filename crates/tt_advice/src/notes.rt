@@ -10,7 +10,7 @@ use crate::kinds::begins;
 use std::alloc::{AllocError, Global};
 use tt_core::u32_at;
 
-/// The hint about a variable font, where no instance was asked for.
+/// The hint about a variable font, unless an instance was requested.
 fn variable_hint(file: &[u8], face: u32, instance: bool) -> Option<Hint>
     requires { length file.now ≤ font_limit }
     ensures { result ≡ variable_hint file.now face instance }
@@ -45,7 +45,7 @@ fn first_of(count: Option<u32>) -> Option<Hint>
     }
 }
 
-/// The hint about the first face of a collection, where no face was asked for.
+/// The hint about the first face of a collection, where no face was requested.
 fn first_hint(file: &[u8], given: bool) -> Option<Hint>
     ensures { result ≡ first_hint file.now given }
 {
@@ -75,7 +75,7 @@ fn push_hint(
 }
 
 /// The lines about a font that is drawn, by its path, its bytes, its face's number, and whether the face and an instance
-/// were asked for. Error: memory ran out.
+/// were requested. Error: memory ran out.
 #[tactic(auto, unfolding(crate::specs::Notes::font_notes))]
 pub fn font_notes(
     alloc: Global,

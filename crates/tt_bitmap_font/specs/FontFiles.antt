@@ -133,13 +133,13 @@ IsGlyphsDefect a face f =
 abbrev pub IsFileDefect : FontFile → List ℕ → Fault → Type 0
 IsFileDefect a file f = IsTextDefect (file_glyphs a.ranges.now) (setting_of a) a.text.now file f
 
--- which of the characters that are asked for a font has
+-- which of the requested characters a font has
 abbrev pub characters_hint : JobFault → Option Hint
 characters_hint job.TextLong = Some (hint.Fixed fixed.ManyCharacters)
 characters_hint job.EmptyPicture = Some (hint.Fixed fixed.NoCharacter)
 characters_hint j = None
 
--- what is reported to a person of the font's file: why the font is refused, and which of its characters are asked for
+-- what is reported to a person of the font's file: why the font is refused, and which of its characters are requested
 abbrev pub hint_for : Refusal → List ℕ → FontFile → Option Hint
 hint_for (reason.Font f) file a = Some (axis_advice f file a.face (axes_in (setting_of a)))
 hint_for (reason.Job j) file a = characters_hint j

@@ -28,9 +28,9 @@ pub struct FontFile<'a> {
     pub text: &'a str,
     /// The path of the font, as it is reported.
     pub path: &'a str,
-    /// Whether a face was asked for.
+    /// Whether a face was requested.
     pub face_given: bool,
-    /// The instance of a variable font, if one is asked for.
+    /// The instance of a variable font, if one is requested.
     pub instance: Option<AskedInstance<'a>>,
 }
 

@@ -21,7 +21,7 @@ use tt_render_settings::Labelled;
 use tt_render_streams::{RunFault, read_font};
 use tt_render_texts::{Refusal, TextsFault, print_text};
 
-/// Which of the characters that are asked for a font has, where these refuse the file.
+/// Which of the requested characters a font has, where these refuse the file.
 fn characters_hint(job: JobFault) -> Option<Hint>
     ensures { result ≡ characters_hint job }
 {

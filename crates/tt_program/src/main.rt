@@ -52,7 +52,7 @@ impl Read for Lines {
     }
 }
 
-/// Reads the command line and does what it asks for; answers the exit status.
+/// Reads the command line and performs its request; answers the exit status.
 fn serve<R: Files + Env + Print + Eprint + AllocGlobal>(rt: &R, stdin: Stdin, stderr: Stderr) -> u8
     ensures { result ≤ 5 }
 {

@@ -1,4 +1,4 @@
--- No part of the standard: what `bdf` is asked for (profile).
+-- No part of the standard: the request `bdf` (profile).
 use Rattle.std.specs.Prelude.{◌≡◌, refl, ℕ, List, [], ◌∷◌, codes, Option, Some, None, option_map}
 use Rattle.tt_bdf.specs.declared.range.CodeRange.{CodeRange}
 use Rattle.tt_bdf.specs.Ranges.{ranges_of}
@@ -7,8 +7,8 @@ use Rattle.tt_fit.specs.declared.programs.Fit.{Fit}
 use Rattle.tt_metrics.specs.declared.heights.Heights.{Heights}
 use Rattle.tt_program_decisions.specs.declared.bdf.BdfRequest.{BdfRequest}
 
--- a font, a size, a way to fit, the number of a face if one is asked for, the rounding of heights, the words of
--- ranges if there are any, a text, and the instance if one is asked for
+-- a font, a size, a way to fit, the number of a face if there is one, the rounding of heights, the words of
+-- ranges if there are any, a text, and the instance if there is one
 pub record BdfAsked : Type 0 where
   pub font : List ℕ
   pub size : ℕ
@@ -45,7 +45,7 @@ abbrev pub text_or_none : Option (List ℕ) → List ℕ
 text_or_none (Some text) = text
 text_or_none None = []
 
--- the ranges that such words ask for, if the words are of the right form
+-- the ranges of such words, if the words are of the right form
 abbrev pub ranges_asked : Option (List ℕ) → Option (List CodeRange)
 ranges_asked None = Some []
 ranges_asked (Some words) = ranges_of words

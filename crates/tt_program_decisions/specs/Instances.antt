@@ -1,4 +1,4 @@
--- No part of the standard: the words of `--instance` and `--axis`, and the instance that they ask for (profile).
+-- No part of the standard: the words of `--instance` and `--axis`, and their instance (profile).
 use Rattle.std.specs.Prelude.{◌≡◌, refl, ℕ, ◌+◌, ◌-◌, ◌*◌, min, Bool, true, false, ◌&&◌, nat_le, nat_lt, if◌then◌else◌, List, [], ◌∷◌, length, map, fold, codes, Option, Some, None, option_map, Result, Ok, Err, ⊤}
 use Rattle.std.specs.List.{list_all}
 use Rattle.tt_axes.specs.AxisWords.{axis_values_of}
@@ -47,7 +47,7 @@ number_of digits = fold with_digit 0 digits
 abbrev pub named_asked : List ℕ → Named
 named_asked word = if is_number word then by_number (number_of word) else by_name word
 
--- the instance that the words ask for, by the values of axes; none without words
+-- the instance of the words, by the values of axes; none without words
 abbrev pub instance_asked : Option (List ℕ) → Option (List ℕ) → List AxisValue → Option Asked
 instance_asked None None axes = None
 instance_asked named words axes = Some (record { named = option_map named_asked named; axes = axes })

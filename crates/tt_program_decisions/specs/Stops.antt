@@ -56,7 +56,7 @@ stop_text stop.Memory = line_of run.Memory ++ codes "\n"
 abbrev pub TellsStop : Stop → ℕ → Errors → Type 0
 TellsStop why status e = (status ≡ stop_status why) × Prints e (stop_text why)
 
--- why the words of a request stop it before its font is opened, by the ranges that they ask for
+-- why the words of a request stop it before its font is opened, by their ranges
 abbrev pub IsStopFor : Option (List CodeRange) → Option Stop → Type 0
 IsStopFor ranges None = is_some ranges ≡ true
 IsStopFor ranges (Some stop.Range) = ranges ≡ None

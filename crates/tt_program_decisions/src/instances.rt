@@ -1,4 +1,4 @@
-//! The words of `--instance` and `--axis`, and the instance that they ask for.
+//! The words of `--instance` and `--axis`, and their instance.
 
 ghost use Rattle.std.specs.Prelude.{◌≡◌, None, option_map};
 ghost use Rattle.tt_face.specs.Views.{asked_view, named_view};
@@ -10,7 +10,7 @@ use std::alloc::{AllocError, Global};
 use tt_axes::{AxisValue, read_axis_values};
 use tt_face::{AskedInstance, NamedBy};
 
-/// The words of the instance that a command line asks for.
+/// The words of the instance on a command line.
 #[derive(Clone, Copy)]
 pub struct InstanceWords<'a> {
     /// The name of a named instance, or its number.
@@ -52,7 +52,7 @@ fn with_digit(n: u32, digit: u8) -> u32
     more.min(4_294_967_295) as u32
 }
 
-/// The number of some digits, at most 2^32 - 1. No font has so many instances.
+/// The number of some digits, at most 2^32 - 1. No font has that instance.
 #[tactic(auto, using(std::proofs::lemmas::List::Sums::fold_more))]
 fn number_of(digits: &[u8]) -> u32
     ensures { result ≡ number_of digits.now }
@@ -71,7 +71,7 @@ fn is_number(words: &[u8]) -> bool
     !words.is_empty() && words.iter().all(|c| c.is_ascii_digit())
 }
 
-/// The named instance that a word asks for: digits alone are its number, other words its name.
+/// The named instance of a word: digits alone are its number, other words its name.
 fn named_asked<'a>(word: &'a str) -> NamedBy<'a>
     ensures { named_view result ≡ named_asked word.now }
 {
@@ -84,7 +84,7 @@ fn named_asked<'a>(word: &'a str) -> NamedBy<'a>
 }
 
 impl<'a> InstanceWords<'a> {
-    /// The instance that the words ask for, by the values that those of `--axis` give. None without words.
+    /// The instance of the words, by the values that those of `--axis` give. None without words.
     pub fn asked(self, axes: &'a [AxisValue]) -> Option<AskedInstance<'a>>
         ensures { option_map asked_view result ≡ instance_asked (option_map (λ s. s.now) self.named) (option_map (λ s. s.now) self.axes) axes.now }
     {

@@ -24,13 +24,13 @@ pub struct LabelOptions<'a> {
     pub space: Space,
     pub fit: Fit,
     pub missing: Missing,
-    /// The number of the face, if one is asked for.
+    /// The number of the face, if one is requested.
     pub face: Option<u32>,
     pub rules: LineRules,
     /// Whether the lines behind a refused line are drawn.
     pub keep_going: bool,
     pub format: PictureFormat,
-    /// The instance of a variable font, if one is asked for.
+    /// The instance of a variable font, if one is requested.
     pub instance: Option<AskedInstance<'a>>,
 }
 

@@ -23,7 +23,7 @@ pub enum Request<'a> {
         font: &'a str,
         text: &'a str,
         reading: Reading,
-        /// The instance of a variable font, if one is asked for. Other requests have theirs in a setting or in options.
+        /// The instance of a variable font, if one is requested. Other requests have theirs in a setting or in options.
         instance: Option<AskedInstance<'a>>,
     },
     /// Write the number of the font file's faces, a line for each, and lines of its axes and named instances.
@@ -83,7 +83,7 @@ impl<'a> Request<'a> {
         }
     }
 
-    /// The name of the files that take the pictures, if one is asked for.
+    /// The name of the files that take the pictures, if there is one.
     pub fn output(&self) -> Option<&'a str>
         ensures { option_map (λ s. s.now) result ≡ output_of self.now }
     {

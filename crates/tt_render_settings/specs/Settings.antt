@@ -42,7 +42,7 @@ plain_setting ppem margin f o = record {
   instance = None;
 }
 
--- the instance that a setting asks for, and the values that it gives to axes
+-- the instance of a setting, and its values of axes
 abbrev pub asked_in : Setting → Option Asked
 asked_in a = option_map asked_view a.instance
 
@@ -57,7 +57,7 @@ axes_in a = axes_of a.instance
 abbrev pub face_asked : Setting → List ℕ → Result Face Fault
 face_asked a file = face_at_instance file a.opening (asked_in a)
 
--- a defect for which no face is opened: of a table that every text needs, or of the instance
+-- a defect that no opened face has: of a table that every text needs, or of the instance
 abbrev pub IsOpeningDefect : Setting → List ℕ → Fault → Type 0
 IsOpeningDefect a file fault = IsDefectAtInstance file a.opening (asked_in a) fault
 

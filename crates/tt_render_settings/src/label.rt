@@ -19,7 +19,7 @@ pub struct Label<'a> {
     pub space: Space,
     /// The path of the font, as it is reported.
     pub path: &'a str,
-    /// Whether a face was asked for.
+    /// Whether a face was requested.
     pub face_given: bool,
     pub format: PictureFormat,
 }

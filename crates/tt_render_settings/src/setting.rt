@@ -49,7 +49,7 @@ pub struct Setting<'i> {
     pub most: usize,
     /// Whether the lines behind a refused line are drawn.
     pub keep_going: bool,
-    /// The instance of a variable font, if one is asked for.
+    /// The instance of a variable font, if one is requested.
     pub instance: Option<AskedInstance<'i>>,
 }
 

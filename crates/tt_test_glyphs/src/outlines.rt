@@ -87,7 +87,7 @@ fn fit_in(line: &mut Line) -> Fit {
     }
 }
 
-/// Puts the outlines or the picture of the words, of which this is the first. The font has this number of glyphs.
+/// Puts the outlines or the picture of the words; this is the first. The font has this number of glyphs.
 fn put_glyphs(alloc: Global, line: &mut Line, fitter: &Fitter, glyphs: u16, word: &str)
     requires { fitter.now.tables.glyphs ≡ glyphs }
 {
