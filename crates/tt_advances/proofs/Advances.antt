@@ -1,12 +1,13 @@
 -- Which advances are found, and what stops them.
-use Rattle.std.proofs.Common.{◌≡◌, ◌∙◌, refl, sym, ap, ap₂, ℕ, zero, suc, ℤ, Bool, true, false, ◌&&◌, if◌then◌else◌, List, [], ◌∷◌, map, Option, Some, None, Result, Ok, Err, inl, inr, subst}
+use Rattle.std.proofs.Common.{◌≡◌, ◌∙◌, refl, sym, ap, ap₂, ℕ, zero, suc, ℤ, Bool, true, false, not, ◌&&◌, if◌then◌else◌, List, [], ◌∷◌, map, Option, Some, None, Result, Ok, Err, inl, inr, subst}
 use Rattle.std.specs.List.{slice_get}
 use Rattle.std.specs.Prelude.{IsOkAnd, is_some}
 use Rattle.tt_advances.specs.Defects.{IsAdvanceDefect, RefusesOne}
-use Rattle.tt_advances.specs.Found.{advances_tested, all_found, face_units, glyph_units, or_zero, units_of}
+use Rattle.tt_advances.specs.Found.{advances_tested, all_found, face_units, glyph_units, or_zero, units_by, units_of}
 use Rattle.tt_advances.specs.Laws.{DefaultsGiveAdvances, FoundAdvancesAreWhole, HasPlainAdvances, TablesGiveAdvances}
 use Rattle.tt_advances.specs.Lines.{advance_line, advance_step}
 use Rattle.tt_core.specs.Chains.{came-through, was-err}
+use Rattle.tt_core.specs.Directory.{HasNo}
 use Rattle.tt_core.specs.Faults.{Fault}
 use Rattle.tt_core.specs.Outcomes.{◌>>=◌}
 use Rattle.tt_face.proofs.Whole.{glyph-tables-whole}
@@ -41,13 +42,38 @@ plain_advances face off =
       tested = plain_tested face off;
     }
 
+pub plain_sound : (face : Face) (gs : List ℕ) → finds_advances face ≡ false → HasNo (IsAdvanceDefect face gs)
+plain_sound face gs off = λ fault defect. let never : true ≡ false = sym defect.0 ∙ off in absurd cc
+
 -- a face without an instance finds no advances
-unvaried : (instance : Option FaceInstance) (by_hvar : Bool) → instance ≡ None → is_some instance && by_hvar ≡ false
+pub unvaried : (instance : Option FaceInstance) (by_hvar : Bool) → instance ≡ None → is_some instance && by_hvar ≡ false
 unvaried None by_hvar is = refl
 unvaried (Some i) by_hvar is = absurd cc
 
 pub default_advances : DefaultsGiveAdvances
 default_advances face none = plain_advances face (unvaried face.instance _ none)
+
+-- a glyph of a face that finds no advances has that of the tables
+by_hvar : (there : Bool) (i : FaceInstance) (m : Metrics) (t : Glyf) (g : ℕ) → not there ≡ false → units_by there i m t g ≡ Ok (advance_of m g)
+by_hvar true i m t g is = refl
+by_hvar false i m t g is = absurd cc
+
+plain_glyph : (i : Option FaceInstance) (m : Metrics) (t : Glyf) (g : ℕ) → is_some i && not (is_some m.advances) ≡ false
+    → glyph_units i m t g ≡ Ok (advance_of m g)
+unfolding glyph_units
+plain_glyph None m t g off = refl
+plain_glyph (Some i) m t g off = by_hvar (is_some m.advances) i m t g off
+
+by_tables : (finds : Bool) (face : Face) (t : Glyf) (g : ℕ) → finds_advances face ≡ finds → glyphs_in face ≡ Ok t
+    → face_units face g ≡ glyph_units face.instance face.metrics t g
+unfolding face_units
+by_tables true face t g is there = rw (is, there) refl
+by_tables false face t g is there = rw is (sym (plain_glyph face.instance face.metrics t g is))
+
+-- the advance of a face is that by its instance, its metrics and its glyph data
+pub units_by_tables : (face : Face) (t : Glyf) (g : ℕ) → glyphs_in face ≡ Ok t
+    → face_units face g ≡ glyph_units face.instance face.metrics t g
+units_by_tables face t g there = by_tables (finds_advances face) face t g refl there
 
 -- the first glyph that is refused is one of them
 pub one_refused : (found : ℕ → Result ℕ Fault) (gs : List ℕ) (f : Fault) → all_found found gs ≡ Err f → RefusesOne found gs f

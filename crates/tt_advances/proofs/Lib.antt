@@ -1,1 +1,3 @@
 pub mod Advances
+pub mod Finding
+pub mod Known

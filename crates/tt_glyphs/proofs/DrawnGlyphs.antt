@@ -7,7 +7,9 @@ use Rattle.tt_fit.specs.declared.programs.Fit.{Fit}
 use Rattle.tt_fit.specs.Fitting.{Fitter, fitted_outline, unfitted_fault}
 use Rattle.tt_fit.specs.outline.Outline.{Outline}
 use Rattle.tt_fit.specs.outline.Steps.{advance_left, step_of}
-use Rattle.tt_line.specs.Layout.{advance_in_pixels}
+use Rattle.tt_advances.proofs.Advances.{units_by_tables}
+use Rattle.tt_advances.specs.Found.{or_zero, units_of}
+use Rattle.tt_line.specs.Layout.{units_in_pixels}
 use Rattle.tt_metrics.specs.Metrics.{Metrics}
 use Rattle.tt_picture.specs.Ink.{glyph_ink, ink_by}
 use Rattle.tt_glyph_pixels.specs.Shown.{is_filled}
@@ -35,7 +37,7 @@ use Rattle.tt_glyphs.specs.declared.told.Told.TheVariants as told
 use Rattle.tt_glyphs.specs.declared.written.GlyphRows.{GlyphRows}
 use Rattle.tt_glyphs.specs.Drawn.{IsDrawn, IsSourceOf, column_of, edged_pixel, line_of, rows_by}
 use Rattle.tt_glyphs.specs.Edged.{EdgedFits, IsEdged, IsEdgedBy, IsRuledBy, IsSameGlyph}
-use Rattle.tt_glyphs.specs.Entries.{advance_by, advance_of, glyph_told, made_within, outline_rows}
+use Rattle.tt_glyphs.specs.Entries.{fitter_units, advance_by, advance_of, glyph_told, made_within, outline_rows}
 use Rattle.tt_glyphs.specs.Ruled.{RuledOutline}
 use Rattle.tt_glyphs.specs.Tried.{ruled_by}
 use Rattle.tt_glyphs.proofs.BitmapRows.{same_rows}
@@ -158,12 +160,20 @@ step_is s g o made = rw made refl
 either : (b : Bool) (x y v w : ℕ) → x ≡ y → v ≡ w → (if b then x else v) ≡ (if b then y else w)
 either b x y v w first other = rw (first, other) refl
 
+-- the advance by the tables of the source is that by the fitter
+units_is : (z : FitterSource) (s : Fitter) (g : ℕ) → IsSourceOf z s → units_of z.face.now g ≡ fitter_units s g
+unfolding units_of
+units_is z s g of = ap or_zero (units_by_tables z.face.now s.tables g of.tables ∙ rw (of.metrics, of.instance) refl)
+
+linear_is : (z : FitterSource) (s : Fitter) (g : ℕ) → IsSourceOf z s
+    → units_in_pixels z.face.now.metrics z.ppem (units_of z.face.now g) ≡ units_in_pixels s.metrics s.ppem (fitter_units s g)
+linear_is z s g of = rw (units_is z s g of) (ap₂ (λ (m : Metrics) (n : ℕ). units_in_pixels m n (fitter_units s g)) (sym of.metrics) (sym of.ppem))
+
 advance_is : (z : FitterSource) (how : Fit) (s : Fitter) (g step : ℕ) (o : Outline) → IsSourceOf z s → fitted_outline s g ≡ Ok o
-    → step ≡ step_of o → advance_of z.face.now.metrics z.ppem how g step ≡ advance_by how s g
+    → step ≡ step_of o → advance_of z.face.now z.ppem how g step ≡ advance_by how s g
 advance_is z how s g step o of made is =
-    either (lays_after_glyphs how) step (glyph_step s g) (advance_in_pixels z.face.now.metrics z.ppem g)
-    (advance_in_pixels s.metrics s.ppem g) (is ∙ sym (step_is s g o made))
-    (ap₂ (λ (m : Metrics) (n : ℕ). advance_in_pixels m n g) (sym of.metrics) (sym of.ppem))
+    either (lays_after_glyphs how) step (glyph_step s g) (units_in_pixels z.face.now.metrics z.ppem (units_of z.face.now g))
+    (units_in_pixels s.metrics s.ppem (fitter_units s g)) (is ∙ sym (step_is s g o made)) (linear_is z s g of)
 
 -- the rows
 

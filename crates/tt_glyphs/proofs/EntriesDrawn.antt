@@ -15,7 +15,7 @@ use Rattle.tt_fit.specs.Laws.{UnboundedStays}
 use Rattle.tt_fit.proofs.WorkApart.{work-is-apart}
 use Rattle.tt_fit.specs.outline.Outline.{Outline}
 use Rattle.tt_fit.specs.outline.Steps.{pixels_of}
-use Rattle.tt_line.specs.Layout.{advance_in_pixels}
+use Rattle.tt_line.specs.Layout.{units_in_pixels}
 use Rattle.tt_metrics.specs.Metrics.{glyphs_of}
 use Rattle.tt_picture.specs.Distinct.{distinct, is_among}
 use Rattle.tt_picture.specs.Ink.{glyph_ink, ink_by}
@@ -32,7 +32,7 @@ use Rattle.tt_glyphs.specs.Bitmaps.{bitmap, bitmap_pixel, is_black_at, is_large,
 use Rattle.tt_glyphs.specs.declared.place.InkPlace.{InkPlace}
 use Rattle.tt_glyphs.specs.declared.told.MadeBitmap.{MadeBitmap}
 use Rattle.tt_glyphs.specs.declared.told.Told.TheVariants as told
-use Rattle.tt_glyphs.specs.Entries.{advance_by, all_rows, entry_of, glyph_told, known, number_bytes, number_rows, number_told, outline_rows, told_rows}
+use Rattle.tt_glyphs.specs.Entries.{fitter_units, advance_by, all_rows, entry_of, glyph_told, known, number_bytes, number_rows, number_told, outline_rows, told_rows}
 use Rattle.tt_glyphs.specs.EntryLaws.{AdvancesAreDrawn, AdvancesAreRounded, RowsAreDrawn, UnboundedAreAlike, has_bit}
 use Rattle.tt_glyphs.specs.GlyphLaws.{entry_shows, lies_in, outline_shows}
 use Rattle.tt_glyphs.proofs.BitmapRows.{row_within}
@@ -91,8 +91,8 @@ advance_alike how t u g same alike =
     let apart = work-is-apart t u same in
     let step : glyph_step u g ≡ glyph_step t g =
     ap (λ (x : Result Outline Fault). pixels_of (outline_advance x)) (outline_alike t u g same alike) in
-    let linear : advance_in_pixels u.metrics u.ppem g ≡ advance_in_pixels t.metrics t.ppem g =
-    rw (apart.metrics, apart.ppem) refl in
+    let linear : units_in_pixels u.metrics u.ppem (fitter_units u g) ≡ units_in_pixels t.metrics t.ppem (fitter_units t g) =
+    rw (apart.metrics, apart.ppem, apart.instance, apart.tables) refl in
     ap₂ (λ (x y : ℕ). if lays_after_glyphs how then x else y) step linear
 
 -- a bitmap that is made is that of the glyph's outline

@@ -6,6 +6,7 @@ use Rattle.std.proofs.lemmas.Int.{ints}
 use Rattle.tt_core.specs.declared.fault.JobFault.TheVariants as job
 use Rattle.tt_core.specs.Chains.{came-through, passed, passed-on}
 use Rattle.tt_core.specs.Limits.{height_limit, width_limit}
+use Rattle.tt_advances.specs.Lines.{advance_steps}
 use Rattle.tt_face.specs.Faces.{Face}
 use Rattle.tt_line.specs.declared.extent.PictureExtent.{PictureExtent}
 use Rattle.tt_line.specs.Layout.{Placement, depth_of, extent_by, laid, laid_at, placed_in, placement, rise_of, text_glyphs, within_limits}
@@ -14,10 +15,10 @@ use Rattle.tt_picture.specs.declared.ink_box.InkBox.{InkBox}
 use Rattle.tt_strike.specs.Grown.{grown, grown_line, grown_placement, lacking, not_large, with_sides}
 use Rattle.tt_strike.specs.Job.{Job}
 use Rattle.tt_strike.specs.Measures.{measured_line}
-use Rattle.tt_strike.specs.Picture.{laid_out, outlines_tested, placed_by_steps, setting_in, steps_in, text_placed}
+use Rattle.tt_strike.specs.Picture.{laid_out, outlines_tested, placed_by_steps, placed_by_units, setting_in, steps_in, text_placed}
 use Rattle.tt_strike.specs.Refusals.{as_font}
 use Rattle.tt_strike.specs.Work.{is_bounded}
-use Rattle.tt_strike.proofs.Placed.{of-job, placed_by_advances, placed_by_its_steps, placed_of}
+use Rattle.tt_strike.proofs.Placed.{laid_by_units, of-job, placed_by_its_units, placed_by_its_steps, placed_of}
 
 pub record LineFits (l : Placement) : Type 0 where
   pub width : l.width ≤ width_limit
@@ -67,17 +68,15 @@ by_steps face a l was =
     let line = of-job (laid_at face.metrics a.ppem a.margin gs (steps_in face.metrics a.ppem s gs)) l by_outlines.rest in
     laid_fits gs (steps_in face.metrics a.ppem s gs) a.margin (rise_of face.metrics a.ppem) (depth_of face.metrics a.ppem) l line
 
-by_advances : (face : Face) (a : Job) (l : Placement) → placement face.metrics face.cmap a.text a.ppem a.margin ≡ Ok l → LineFits l
-unfolding placement
+by_advances : (face : Face) (a : Job) (l : Placement) → placed_by_units face a ≡ Ok l → LineFits l
 by_advances face a l was =
     let gs = text_glyphs face.cmap a.text in
-    laid_fits gs (linear_steps face.metrics a.ppem gs) a.margin (rise_of face.metrics a.ppem) (depth_of face.metrics a.ppem) l was
+    laid_fits gs (advance_steps face a.ppem gs) a.margin (rise_of face.metrics a.ppem) (depth_of face.metrics a.ppem) l
+    (laid_by_units face a l was).laid
 
 by_either : (bounded : Bool) (face : Face) (a : Job) (l : Placement) → is_bounded a.fit ≡ bounded → text_placed face a ≡ Ok l → LineFits l
 by_either true face a l is was = by_steps face a l (rw (placed_by_its_steps face a is) at was)
-by_either false face a l is was =
-    by_advances face a l
-    (of-job (placement face.metrics face.cmap a.text a.ppem a.margin) l (rw (placed_by_advances face a is) at was))
+by_either false face a l is was = by_advances face a l (rw (placed_by_its_units face a is) at was)
 
 laid_out_fits : (face : Face) (a : Job) (l : Placement) → laid_out face a ≡ Ok l → LineFits l
 laid_out_fits face a l was = by_either (is_bounded a.fit) face a l refl (placed_of face a l was)

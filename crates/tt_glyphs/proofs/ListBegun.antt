@@ -1,5 +1,5 @@
 -- A request for the bitmaps of a list, up to the test of its points.
-use Rattle.std.proofs.Common.{◌≡◌, ap, refl, ℕ, List, [], ◌∷◌, map, All, Result, Ok, Err, arith}
+use Rattle.std.proofs.Common.{◌≡◌, ◌∙◌, ap, refl, sym, ℕ, List, [], ◌∷◌, map, All, Option, Result, Ok, Err, arith}
 use Rattle.std.specs.Prelude.{IfSome}
 use Rattle.std.proofs.lemmas.List.Elements.{All-cons, All-head, All-tail}
 use Rattle.tt_core.specs.declared.draw_fault.DrawFault.{DrawFault}
@@ -10,7 +10,7 @@ use Rattle.tt_core.specs.declared.font_fault.FontFault.TheVariants as font
 use Rattle.tt_core.specs.Chains.{came-through}
 use Rattle.tt_core.specs.Faults.{Fault}
 use Rattle.tt_core.specs.Outcomes.{FontGives, draw_fault_of_font, draw_font_fault}
-use Rattle.tt_face.specs.Faces.{Face, glyphs_in}
+use Rattle.tt_face.specs.Faces.{Face, FaceInstance, glyphs_in}
 use Rattle.tt_face.specs.Programs.{ProgramTables}
 use Rattle.tt_fit.specs.declared.programs.Fit.{Fit}
 use Rattle.tt_fit.specs.Fitting.{Fitter}
@@ -78,22 +78,25 @@ charging_tells P tested (draw.Job j) fails = tt
 charging_tells P tested draw.Memory fails = tt
 
 -- the fitter of a face has its metrics and its size
-of_setting : (m : Metrics) (tables : Glyf) (programs : ProgramTables) (ppem : ℕ) (how : Fit) (s : Fitter)
-    → fitter_of m tables programs [] ppem how ≡ Ok s → (s.metrics ≡ m) × (s.ppem ≡ ppem)
+of_setting : (m : Metrics) (tables : Glyf) (programs : ProgramTables) (i : Option FaceInstance) (ppem : ℕ) (how : Fit) (s : Fitter)
+    → fitter_of m tables programs i ppem how ≡ Ok s → (s.metrics ≡ m) × (s.ppem ≡ ppem) × (s.instance ≡ i) × (s.tables ≡ tables)
 unfolding fitter_of
-of_setting m tables programs ppem how s was =
-    let by_hints = came-through (prepared m programs [] ppem how) _ s was in
+of_setting m tables programs i ppem how s was =
+    let by_hints = came-through (prepared m programs i ppem how) _ s was in
     let rest = by_hints.rest in
     let metrics : s.metrics ≡ m = cc in
-    let size : s.ppem ≡ ppem = cc in (metrics, size)
+    let size : s.ppem ≡ ppem = cc in
+    let instance : s.instance ≡ i = cc in
+    let glyphs : s.tables ≡ tables = cc in (metrics, size, instance, glyphs)
 
 pub setting_source : (face : Face) (ppem : ℕ) (how : Fit) (s : Fitter) → setting face ppem how ≡ Ok s
-    → (s.metrics ≡ face.metrics) × (s.ppem ≡ ppem)
+    → (s.metrics ≡ face.metrics) × (s.ppem ≡ ppem) × (s.instance ≡ face.instance) × (glyphs_in face ≡ Ok s.tables)
 unfolding setting
 setting_source face ppem how s was =
     let by_tables = came-through (glyphs_in face) _ s was in
     let by_programs = came-through (programs_in face how) _ s by_tables.rest in
-    of_setting face.metrics by_tables.value by_programs.value ppem how s by_programs.rest
+    let is = of_setting face.metrics by_tables.value by_programs.value face.instance ppem how s by_programs.rest in
+    (is.0, is.1, is.2, by_tables.first ∙ ap Ok (sym is.3))
 
 -- a fact of the numbers of some glyphs
 pub numbers_hold : (P : ℕ → Type 0) (ts : List TriedGlyph) → All P (tried_numbers ts) → All (λ (t : TriedGlyph). P t.number) ts

@@ -34,6 +34,8 @@ pub sources : (z : FitterSource) (s : Fitter) (gs : List ℕ) → IsSourceOf z s
 sources z s gs is n = record {
   metrics = ap (λ (t : Fitter). t.metrics) (maker_alike s gs n) ∙ is.metrics;
   ppem = ap (λ (t : Fitter). t.ppem) (maker_alike s gs n) ∙ is.ppem;
+  instance = ap (λ (t : Fitter). t.instance) (maker_alike s gs n) ∙ is.instance;
+  tables = is.tables ∙ ap Ok (sym (ap (λ (t : Fitter). t.tables) (maker_alike s gs n)));
 }
 
 -- the chords and the crossings are those that are tested

@@ -9,7 +9,7 @@ use Rattle.tt_core.specs.declared.fault.JobFault.{JobFault}
 use Rattle.tt_core.specs.declared.fault.JobFault.TheVariants as fault
 use Rattle.tt_core.specs.Directory.{HasNo}
 use Rattle.tt_core.specs.Faults.{Fault}
-use Rattle.tt_core.specs.Limits.{point_work_limit, size_limit, text_limit}
+use Rattle.tt_core.specs.Limits.{size_limit, text_limit}
 use Rattle.tt_core.specs.Outcomes.{◌>>=◌}
 use Rattle.tt_face.specs.Faces.{Face}
 use Rattle.tt_fit.specs.declared.programs.Fit.{Fit}
@@ -20,14 +20,14 @@ use Rattle.tt_metrics.specs.Metrics.{Metrics, glyphs_of}
 use Rattle.tt_picture.specs.Distinct.{distinct, is_among}
 use Rattle.tt_picture.specs.Ink.{glyph_ink}
 use Rattle.tt_picture.specs.Steps.{glyph_advance, outlines_by}
-use Rattle.tt_strike.specs.Defects.{IsGlyphDefect, IsLineDefect, IsSettingDefect}
+use Rattle.tt_strike.specs.Defects.{IsGlyphDefect, IsMadeDefect, IsSettingDefect}
 use Rattle.tt_strike.specs.Job.{size_tested}
 use Rattle.tt_strike.specs.Makers.{job_at}
 use Rattle.tt_strike.specs.Picture.{outlines_in, setting}
 use Rattle.tt_strike.specs.Refusals.{Refused, as_font, as_job, job}
-use Rattle.tt_strike.specs.Work.{chord_limit, chords_in, crossings_allowed, edges_limited, line_fitter, points_in, work_left, work_tested}
+use Rattle.tt_strike.specs.Work.{chord_limit, chords_in, crossings_allowed, edges_limited, line_fitter, work_left, work_tested}
 use Rattle.tt_strike.proofs.Placed.{of-font}
-use Rattle.tt_strike.proofs.Stopped.{too_much}
+use Rattle.tt_strike.proofs.Stopped.{asked_much, too_much}
 use Rattle.tt_glyphs.specs.Bitmaps.{is_large, place_of}
 use Rattle.tt_glyphs.specs.declared.place.InkPlace.{InkPlace}
 use Rattle.tt_glyphs.specs.declared.told.GlyphEntry.{GlyphEntry}
@@ -301,7 +301,7 @@ glyph_defect maker gs f was =
 pub list_defect : (face : Face) (a : GlyphJob) (s : Fitter) (f : Fault) → setting face a.ppem a.fit ≡ Ok s → s.metrics ≡ face.metrics
     → outlines_in s (known s a.glyphs) ≡ Err f → IsListDefect face a f
 list_defect face a s f made same was =
-    let P : List ℕ → Type 0 = λ gs. IsLineDefect face (job_at a.ppem a.fit) gs f in
+    let P : List ℕ → Type 0 = λ gs. IsMadeDefect face (job_at a.ppem a.fit) gs f in
     let here : P (known s a.glyphs) = inr (rw made (glyph_defect (line_fitter s (known s a.glyphs)) (known s a.glyphs) f was)) in
     subst P (ap (λ (m : Metrics). known_of (glyphs_of m) a.glyphs) same) here
 
@@ -316,7 +316,7 @@ pub no_list_defect : (face : Face) (a : GlyphJob) (s : Fitter) (os : List Outlin
     → s.metrics ≡ face.metrics → HasNo (IsSettingDefect face (job_at a.ppem a.fit)) → outlines_in s (known s a.glyphs) ≡ Ok os
     → HasNo (IsListDefect face a)
 no_list_defect face a s os made same good all =
-    let P : List ℕ → Type 0 = λ gs. HasNo (IsLineDefect face (job_at a.ppem a.fit) gs) in
+    let P : List ℕ → Type 0 = λ gs. HasNo (IsMadeDefect face (job_at a.ppem a.fit) gs) in
     let gs = known s a.glyphs in
     let here : P gs = λ fault defect. elim defect [
       | inl of_setting ↦ good fault of_setting

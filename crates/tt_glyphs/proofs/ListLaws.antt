@@ -14,7 +14,7 @@ use Rattle.tt_picture.specs.Ink.{glyph_ink}
 use Rattle.tt_picture.specs.Shapes.{shape_at}
 use Rattle.tt_picture.proofs.RowBytes.{length-rows}
 use Rattle.tt_picture.proofs.Unbounded.{uncharged}
-use Rattle.tt_strike.specs.Work.{line_fitter, point_work, points_in}
+use Rattle.tt_strike.specs.Work.{asked_work, line_fitter}
 use Rattle.tt_glyphs.specs.Bitmaps.{bitmap_pixel, is_large, place_bytes, place_of}
 use Rattle.tt_glyphs.specs.declared.place.InkPlace.{InkPlace}
 use Rattle.tt_glyphs.specs.declared.told.Told.TheVariants as told
@@ -44,7 +44,7 @@ same_fitter stays s (n ∷ ns) g none =
 
 pub alone : UnboundedStays → (s : Fitter) (gs : List ℕ) (g : ℕ) → s.work ≡ None → line_fitter s gs g ≡ s
 alone stays s gs g none =
-    ap (λ (t : Fitter). fitter_for t (distinct gs) g) (uncharged s (point_work * points_in s gs) none)
+    ap (λ (t : Fitter). fitter_for t (distinct gs) g) (uncharged s (asked_work s gs) none)
     ∙ same_fitter stays s (distinct gs) g none
 
 pub order_changes_nothing : UnboundedStays → OrderChangesNothing

@@ -1,11 +1,14 @@
 -- A label that is laid out by advances: what its glyphs stop, and what they tell.
-use Rattle.std.proofs.Common.{◌≡◌, ◌∙◌, sym, false, ℕ, List, Result, Ok, Err}
+use Rattle.std.proofs.Common.{◌≡◌, ◌∙◌, refl, sym, false, ℕ, List, Result, Ok, Err}
 use Rattle.std.specs.Prelude.{IfSome}
+use Rattle.tt_advances.specs.Found.{advances_tested}
+use Rattle.tt_advances.specs.Lines.{advance_step}
+use Rattle.tt_core.specs.Chains.{came-through}
 use Rattle.tt_core.specs.declared.draw_fault.DrawFault.{DrawFault}
-use Rattle.tt_core.specs.declared.draw_fault.DrawFault.TheVariants as draw
-use Rattle.tt_core.specs.declared.fault.JobFault.{JobFault}
+use Rattle.tt_core.specs.declared.font_fault.FontFault.{FontFault}
+use Rattle.tt_core.specs.declared.font_fault.FontFault.TheVariants as fault
+use Rattle.tt_core.specs.Outcomes.{◌>>=◌, draw_fault_of_font, font_fault}
 use Rattle.tt_core.specs.Faults.{Fault}
-use Rattle.tt_core.specs.Outcomes.{GivesUnless, draw_font_fault}
 use Rattle.tt_face.specs.Faces.{Face}
 use Rattle.tt_label.specs.Label.{joint, joint_numbers, label_glyphs, label_placed, stepped_lines}
 use Rattle.tt_label.specs.Made.{label_shapes}
@@ -14,12 +17,10 @@ use Rattle.tt_label.proofs.Placed.{placed_by_advances, placed_lines, shapes_tell
 use Rattle.tt_line.specs.declared.align.Align.{Align}
 use Rattle.tt_line.specs.Labels.{label_placement}
 use Rattle.tt_line.specs.Layout.{Placement}
-use Rattle.tt_line.specs.Steps.{step_in_pixels}
 use Rattle.tt_picture.specs.Glyphs.{Glyph}
 use Rattle.tt_strike.specs.Job.{Job, tested}
 use Rattle.tt_strike.specs.Made.{AreMade, shapes_made}
-use Rattle.tt_strike.specs.Refusals.{as_job, refusal}
-use Rattle.tt_strike.specs.Refusals as outcome
+use Rattle.tt_strike.specs.Refusals.{as_font, as_job, refusal}
 use Rattle.tt_strike.specs.Strikes.{SizedFace, job_by, job_with}
 use Rattle.tt_strike.specs.Work.{is_bounded}
 use Rattle.tt_strike.proofs.Placed.{of-job}
@@ -40,25 +41,40 @@ pub made_as_joint : {gs : List Glyph} (z y : SizedFace) (text : List ℕ) (margi
 made_as_joint z y text margin k lines l same at one made =
     let is = rw (same, at, one) at made in made_textless z text margin (joint lines) is
 
+-- the lines of a text, by the advances that are found
+abbrev pub FontLines : Face → Job → List (List (ℕ × ℕ)) → Type 0
+FontLines face a lines = (advances_tested face (label_glyphs face.cmap a.text)
+    >>= λ u. Ok (stepped_lines face.metrics (advance_step face a.ppem) face.cmap a.text)) ≡ Ok lines
+
 -- a label that is laid out has the glyphs of its text
 pub glyphs_by_advances : (face : Face) (a : Job) (how : Align) (lines : List Placement) → tested a ≡ Ok tt → is_bounded a.fit ≡ false
     → label_placed face a how ≡ Ok lines → joint_numbers lines ≡ label_glyphs face.cmap a.text
 glyphs_by_advances face a how lines passes unbounded placed =
-    let step = step_in_pixels face.metrics a.ppem in
+    let step = advance_step face a.ppem in
     let ls = stepped_lines face.metrics step face.cmap a.text in
-    let is = of-job (label_placement face.metrics a.ppem a.margin how ls) lines (sym (placed_by_advances face a how passes unbounded) ∙ placed) in
+    let found = came-through (as_font (advances_tested face (label_glyphs face.cmap a.text))) _ lines
+    (sym (placed_by_advances face a how passes unbounded) ∙ placed) in
+    let is = of-job (label_placement face.metrics a.ppem a.margin how ls) lines found.rest in
     (placed_lines face.metrics a.ppem a.margin how ls lines is).numbers ∙ numbers_stepped face.metrics step face.cmap a.text
 
--- its layout finds no defect of the font
-not_of_font : {X : Type 0} (r : Result X JobFault) (f : Fault) → as_job r ≡ Err (outcome.font f) → ⊥
-not_of_font (Ok x) f was = absurd cc
-not_of_font (Err j) f was = absurd cc
+-- how its layout stops: where advances are not found, or at its size
+pub units_stop_label : (face : Face) (a : Job) (how : Align) (e : FontFault) → tested a ≡ Ok tt → is_bounded a.fit ≡ false
+    → IfSome (font_fault e) (λ f. advances_tested face (label_glyphs face.cmap a.text) ≡ Err f)
+    → IfSome (refusal (draw_fault_of_font e)) (λ r. label_placed face a how ≡ Err r)
+units_stop_label face a how (fault.Font f) passes unbounded fails = placed_by_advances face a how passes unbounded ∙ rw fails refl
+units_stop_label face a how fault.Memory passes unbounded fails = tt
 
-pub layout_tells_no_defect : {X : Type 0} (view : X → List Placement) (P : Fault → Type 0) (face : Face) (a : Job) (how : Align) (d : DrawFault)
-    → tested a ≡ Ok tt → is_bounded a.fit ≡ false → GivesUnless refusal view (Err d) (label_placed face a how)
-    → IfSome (draw_font_fault d) P
-layout_tells_no_defect view P face a how (draw.Font f) passes unbounded gives =
-    absurd (not_of_font (label_placement face.metrics a.ppem a.margin how
-    (stepped_lines face.metrics (step_in_pixels face.metrics a.ppem) face.cmap a.text)) f (sym (placed_by_advances face a how passes unbounded) ∙ gives))
-layout_tells_no_defect view P face a how (draw.Job j) passes unbounded gives = tt
-layout_tells_no_defect view P face a how draw.Memory passes unbounded gives = tt
+-- where the advances of some glyphs are not found
+pub found_fails : {Y : Type 0} (r : Result (Unit {0}) Fault) (next : Unit {0} → Y) (e : FontFault)
+    → IfSome (font_fault e) (λ f. (r >>= λ u. Ok (next u)) ≡ Err f) → IfSome (font_fault e) (λ f. r ≡ Err f)
+found_fails r next fault.Memory fails = tt
+found_fails (Ok u) next (fault.Font f) fails = absurd cc
+found_fails (Err g) next (fault.Font f) fails = fails
+
+pub units_ready_label : (face : Face) (a : Job) (how : Align) (lines : List (List (ℕ × ℕ))) → tested a ≡ Ok tt → is_bounded a.fit ≡ false
+    → FontLines face a lines
+    → label_placed face a how ≡ as_job (label_placement face.metrics a.ppem a.margin how lines)
+units_ready_label face a how lines passes unbounded found =
+    let both = came-through (advances_tested face (label_glyphs face.cmap a.text)) _ lines found in
+    let same : stepped_lines face.metrics (advance_step face a.ppem) face.cmap a.text ≡ lines = let last = both.rest in cc in
+    placed_by_advances face a how passes unbounded ∙ rw (both.first, same) refl

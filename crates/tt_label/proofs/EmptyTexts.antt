@@ -2,6 +2,8 @@
 use Rattle.std.proofs.Common.{◌≡◌, ◌∙◌, refl, sym, ap, subst, ℕ, ◌+◌, ◌*◌, Bool, true, false, ◌||◌, ◌==◌, if◌then◌else◌, nat_lt, pos, int_lt, List, [], map, Option, None, Result, Ok, Err, arith}
 use Rattle.std.proofs.lemmas.Str.{chars-nil}
 use Rattle.tt_cmap.specs.Maps.{CharacterMap, glyph_of_unit, units_by}
+use Rattle.tt_advances.specs.Found.{advances_tested}
+use Rattle.tt_advances.specs.Lines.{advance_line, advance_step}
 use Rattle.tt_core.specs.Chains.{came-through}
 use Rattle.tt_core.specs.declared.fault.JobFault.{JobFault}
 use Rattle.tt_core.specs.declared.fault.JobFault.TheVariants as fault
@@ -12,7 +14,7 @@ use Rattle.tt_label.proofs.OneLineDrawn.{ok_same, one_line_has_pixels}
 use Rattle.tt_line.specs.declared.extent.PictureExtent.{PictureExtent}
 use Rattle.tt_line.specs.Labels.{greater, label_lines}
 use Rattle.tt_line.specs.Layout.{Placement, depth_of, extent_by, placed_in, rise_of, text_glyphs, within_limits}
-use Rattle.tt_line.specs.Steps.{linear_line, step_in_pixels, stepped}
+use Rattle.tt_line.specs.Steps.{stepped}
 use Rattle.tt_metrics.specs.Metrics.{Metrics}
 use Rattle.tt_picture.specs.declared.ink_box.InkBox.{InkBox}
 use Rattle.tt_picture.specs.Pictures.{Image, picture}
@@ -43,8 +45,9 @@ no_steps true face a steps is none was =
     ∙ ap (λ (ns : List ℕ). stepped m (step_by m a.ppem (advance_with s gs)) ns) none
 no_steps false face a steps is none was =
     let gs = text_glyphs face.cmap a.text in
-    sym (ok_same (linear_line face.metrics a.ppem gs) steps (rw is at was))
-    ∙ ap (λ (ns : List ℕ). stepped face.metrics (step_in_pixels face.metrics a.ppem) ns) none
+    let found = came-through (as_font (advances_tested face gs)) _ steps (rw is at was) in
+    sym (ok_same (advance_line face a.ppem gs) steps found.rest)
+    ∙ ap (λ (ns : List ℕ). stepped face.metrics (advance_step face a.ppem) ns) none
 
 -- a line without a glyph, of this width
 record IsBare (columns : ℕ) (l : Placement) : Type 0 where

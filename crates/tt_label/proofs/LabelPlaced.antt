@@ -2,6 +2,8 @@
 use Rattle.std.proofs.Common.{◌≡◌, ◌∙◌, sym, ap, ap₂, ℕ, Bool, true, false, if◌then◌else◌, List, [], ◌∷◌, map, Option, None, Some, Result, Ok}
 use Rattle.std.proofs.lemmas.List.Elements.{All-head, All-tail}
 use Rattle.std.specs.Prelude.{All}
+use Rattle.tt_advances.specs.Found.{advances_tested}
+use Rattle.tt_advances.specs.Lines.{advance_step}
 use Rattle.tt_core.specs.Chains.{came-through}
 use Rattle.tt_core.specs.declared.fault.JobFault.{JobFault}
 use Rattle.tt_core.specs.Outcomes.{◌>>=◌, each}
@@ -13,7 +15,6 @@ use Rattle.tt_label.proofs.Drawn.{as_large, left_of, lines_moved}
 use Rattle.tt_line.specs.declared.align.Align.{Align}
 use Rattle.tt_line.specs.Labels.{label_placement}
 use Rattle.tt_line.specs.Layout.{Placement}
-use Rattle.tt_line.specs.Steps.{step_in_pixels}
 use Rattle.tt_picture.specs.declared.ink_box.InkBox.{InkBox}
 use Rattle.tt_picture.specs.Steps.{step_by}
 use Rattle.tt_strike.specs.Grown.{grown, lacking, with_sides}
@@ -41,8 +42,9 @@ laid_by_either true face a how lines is =
     let steps = stepped_lines m (step_by m a.ppem (advance_with s gs)) face.cmap a.text in
     record { steps = steps; laid = of-job (label_placement m a.ppem a.margin how steps) lines by_outlines.rest }
 laid_by_either false face a how lines is =
-    let steps = stepped_lines face.metrics (step_in_pixels face.metrics a.ppem) face.cmap a.text in
-    record { steps = steps; laid = of-job (label_placement face.metrics a.ppem a.margin how steps) lines is }
+    let steps = stepped_lines face.metrics (advance_step face a.ppem) face.cmap a.text in
+    let found = came-through (as_font (advances_tested face (label_glyphs face.cmap a.text))) _ lines is in
+    record { steps = steps; laid = of-job (label_placement face.metrics a.ppem a.margin how steps) lines found.rest }
 
 pub laid_label : (face : Face) (a : Job) (how : Align) (lines : List Placement) → label_placed face a how ≡ Ok lines
     → IsLaidLabel face a how lines

@@ -1,11 +1,14 @@
 -- No label is refused for want of a pixel: no step of its making gives that refusal.
 use Rattle.std.proofs.Common.{◌≡◌, ◌≢◌, ap, ℕ, ◌-◌, Bool, true, false, ◌||◌, ◌&&◌, if◌then◌else◌, nat_lt, List, [], ◌∷◌, chars, length, map, Option, None, Some, Result, Ok, Err}
+use Rattle.tt_advances.specs.Found.{advances_tested}
+use Rattle.tt_advances.specs.Lines.{advance_step}
 use Rattle.tt_core.specs.declared.fault.JobFault.{JobFault}
 use Rattle.tt_core.specs.declared.fault.JobFault.TheVariants as fault
 use Rattle.tt_core.specs.Faults.{Fault}
 use Rattle.tt_core.specs.Limits.{height_limit, margin_limit, point_work_limit, size_limit, text_limit, width_limit}
 use Rattle.tt_core.specs.Outcomes.{◌>>=◌, each}
 use Rattle.tt_face.specs.Faces.{Face}
+use Rattle.tt_fit.specs.DeltaCounting.{delta_limit}
 use Rattle.tt_fit.specs.Fitting.{Fitter}
 use Rattle.tt_fit.specs.declared.programs.Fit.{Fit}
 use Rattle.tt_label.specs.Label.{grown_lines, joint, joint_numbers, label_by_advances, label_by_steps, label_drawn, label_glyphs, label_grown, label_ink, label_outcome, label_placed, some_line_shows, stepped_lines}
@@ -14,7 +17,6 @@ use Rattle.tt_line.specs.declared.align.Align.{Align}
 use Rattle.tt_line.specs.declared.label_extent.LabelExtent.{LabelExtent}
 use Rattle.tt_line.specs.Labels.{label_extent, label_limited, label_placement, line_step_of, lines_placed, widest}
 use Rattle.tt_line.specs.Layout.{Placement, depth_of, rise_of}
-use Rattle.tt_line.specs.Steps.{step_in_pixels}
 use Rattle.tt_metrics.specs.Metrics.{Metrics}
 use Rattle.tt_picture.specs.declared.ink_box.InkBox.{InkBox}
 use Rattle.tt_picture.specs.Pictures.{Image, image}
@@ -26,7 +28,7 @@ use Rattle.tt_strike.specs.Job.{Job, margin_tested, size_tested, tested, text_te
 use Rattle.tt_strike.specs.Measures.{line_ink}
 use Rattle.tt_strike.specs.Picture.{advance_with, edges_tested, frame_of, line_shapes, outlines_in, outlines_tested, points_tested, setting_in, shapes_in}
 use Rattle.tt_strike.specs.Refusals.{Refused, as_font, as_job, job}
-use Rattle.tt_strike.specs.Work.{chord_limit, chords_in, crossings_allowed, edges_limited, is_bounded, line_fitter, points_in, work_left, work_tested}
+use Rattle.tt_strike.specs.Work.{asked_tested, chord_limit, chords_in, counts_tested, crossings_allowed, deltas_in, edges_limited, is_bounded, line_fitter, points_in, work_left, work_tested}
 
 -- a chain gives an error only where a step of it does
 chain_never : {A B E : Type 0} (e : E) (r : Result A E) (f : A → Result B E) → r ≢ Err e → ((x : A) → f x ≢ Err e) → (r >>= f) ≢ Err e
@@ -65,6 +67,12 @@ work_never : (how : Fit) (limit work : ℕ) → work_tested how limit work ≢ E
 unfolding work_tested
 work_never how limit work = test_never (is_bounded how && nat_lt limit work) fault.WorkLarge tt (λ is. cc)
 
+counts_never : (how : Fit) (points deltas : ℕ) → counts_tested how points deltas ≢ Err fault.EmptyPicture
+unfolding counts_tested
+counts_never how points deltas =
+    chain_never fault.EmptyPicture (work_tested how point_work_limit points) (λ u. work_tested how delta_limit deltas)
+    (work_never how point_work_limit points) (λ u. work_never how delta_limit deltas)
+
 -- the lines are laid out
 
 limited_never : (e : LabelExtent) → label_limited e ≢ Err fault.EmptyPicture
@@ -84,7 +92,7 @@ placement_never m ppem margin how lines =
 outlines_never : (s : Fitter) (how : Fit) (gs : List ℕ) → outlines_tested s how gs ≢ Err (job fault.EmptyPicture)
 outlines_never s how gs =
     chain_never (job fault.EmptyPicture) (as_job (asked_tested how s gs)) (λ u. as_font (outlines_in s gs))
-    (job_never (asked_tested how s gs) (work_never how point_work_limit (points_in s gs)))
+    (job_never (asked_tested how s gs) (counts_never how (points_in s gs) (deltas_in s gs)))
     (λ u. font_never (outlines_in s gs))
 
 steps_never : (face : Face) (a : Job) (how : Align) → label_by_steps face a how ≢ Err (job fault.EmptyPicture)
@@ -101,8 +109,10 @@ steps_never face a how =
 
 advances_never : (face : Face) (a : Job) (how : Align) → label_by_advances face a how ≢ Err (job fault.EmptyPicture)
 advances_never face a how =
-    let lines = stepped_lines face.metrics (step_in_pixels face.metrics a.ppem) face.cmap a.text in
-    job_never (label_placement face.metrics a.ppem a.margin how lines) (placement_never face.metrics a.ppem a.margin how lines)
+    let lines = stepped_lines face.metrics (advance_step face a.ppem) face.cmap a.text in
+    let found = advances_tested face (label_glyphs face.cmap a.text) in
+    chain_never (job fault.EmptyPicture) (as_font found) (λ u. as_job (label_placement face.metrics a.ppem a.margin how lines)) (font_never found)
+    (λ u. job_never (label_placement face.metrics a.ppem a.margin how lines) (placement_never face.metrics a.ppem a.margin how lines))
 
 one_of_never : {A : Type 0} (b : Bool) (x y : Result A Refused) → x ≢ Err (job fault.EmptyPicture) → y ≢ Err (job fault.EmptyPicture)
     → (if b then x else y) ≢ Err (job fault.EmptyPicture)
@@ -132,7 +142,8 @@ shapes_never s a line =
     let e = job fault.EmptyPicture in
     let last : List Shape → Result (List Shape) Refused = λ glyphs. as_job (edges_tested s a line glyphs) >>= λ u. Ok glyphs in
     chain_never e (as_job (points_tested s a line)) (λ u. as_font (shapes_in s line) >>= last)
-    (job_never (points_tested s a line) (work_never a.fit point_work_limit (points_in s (map (λ (g : ℕ × ℕ). g.0) line.glyphs))))
+    (job_never (points_tested s a line)
+    (counts_never a.fit (points_in s (map (λ (g : ℕ × ℕ). g.0) line.glyphs)) (deltas_in s (map (λ (g : ℕ × ℕ). g.0) line.glyphs))))
     (λ u. chain_never e (as_font (shapes_in s line)) last (font_never (shapes_in s line))
     (λ glyphs. chain_never e (as_job (edges_tested s a line glyphs)) (λ u. Ok glyphs)
     (job_never (edges_tested s a line glyphs) (edges_never s a line glyphs)) (λ u is. cc)))

@@ -2,6 +2,8 @@
 use Rattle.std.proofs.Common.{◌≡◌, ◌∙◌, refl, sym, ap, ap₂, ℕ, ◌+◌, ◌-◌, ◌*◌, ◌≤◌, Bool, true, false, ◌||◌, ◌==◌, if◌then◌else◌, nat_lt, ℤ, pos, negsuc, ◌+ℤ◌, int_lt, unsigned_abs, List, [], ◌∷◌, append-nil, map, sum, Result, Ok, Err, ◌⊎◌, inl, inr, arith}
 use Rattle.std.proofs.lemmas.Bool.Decides.{nat_tests}
 use Rattle.std.proofs.lemmas.Int.{ints}
+use Rattle.tt_advances.specs.Found.{advances_tested}
+use Rattle.tt_advances.specs.Lines.{advance_line, advance_step}
 use Rattle.tt_core.specs.declared.fault.JobFault.{JobFault}
 use Rattle.tt_core.specs.declared.fault.JobFault.TheVariants as fault
 use Rattle.tt_core.specs.Limits.{height_limit, width_limit}
@@ -17,14 +19,14 @@ use Rattle.tt_line.specs.declared.align.Align.TheVariants as align
 use Rattle.tt_line.specs.declared.extent.PictureExtent.{PictureExtent}
 use Rattle.tt_line.specs.declared.label_extent.LabelExtent.{LabelExtent}
 use Rattle.tt_line.specs.Labels.{greater, indent, label_extent, label_limited, label_placement, line_placed, line_step_of, rows_of, widest, width_of}
-use Rattle.tt_line.specs.Layout.{Placement, depth_of, extent_by, glyphs_at_pens, laid_at, placed_in, placement, rise_of, text_glyphs, within_limits}
-use Rattle.tt_line.specs.Steps.{at_least, linear_line, step_in_pixels}
+use Rattle.tt_line.specs.Layout.{Placement, depth_of, extent_by, glyphs_at_pens, laid_at, placed_in, rise_of, text_glyphs, within_limits}
+use Rattle.tt_line.specs.Steps.{at_least}
 use Rattle.tt_line.proofs.Stepped.{firsts}
 use Rattle.tt_metrics.specs.Metrics.{Metrics}
 use Rattle.tt_picture.specs.Steps.{step_by}
 use Rattle.tt_strike.specs.Job.{Job, tested}
 use Rattle.tt_strike.specs.Layouts.{steps_outcome}
-use Rattle.tt_strike.specs.Picture.{advance_with, laid_out, made_line, outlines_tested, placed_by_steps, setting_in, text_placed}
+use Rattle.tt_strike.specs.Picture.{advance_with, laid_out, made_line, outlines_tested, placed_by_steps, placed_by_units, setting_in, text_placed}
 use Rattle.tt_strike.specs.Refusals.{Refused, as_font, as_job, job}
 use Rattle.tt_strike.specs.Work.{is_bounded}
 
@@ -151,7 +153,7 @@ one_line_placed m ppem margin how line =
 
 -- the lines of a text that is one line
 
-after_outlines : (r : Result (List Outline) Refused) (line : List (ℕ × ℕ)) (p : List (ℕ × ℕ) → Result (List Placement) Refused)
+after_outlines : {X : Type 0} (r : Result X Refused) (line : List (ℕ × ℕ)) (p : List (ℕ × ℕ) → Result (List Placement) Refused)
     (h : List (ℕ × ℕ) → Result Placement Refused) → p line ≡ (h line >>= λ l. Ok (l ∷ []))
     → (r >>= λ os. p line) ≡ (((r >>= λ os. Ok line) >>= h) >>= λ l. Ok (l ∷ []))
 after_outlines (Ok os) line p h same = same
@@ -180,7 +182,12 @@ placed_by true face a how is one =
     (λ line. as_job (label_placement face.metrics a.ppem a.margin how (line ∷ []))) (laid_line face a)
     (λ line. one_line_placed face.metrics a.ppem a.margin how line))
 placed_by false face a how is one =
-    rw (is, one) (one_line_placed face.metrics a.ppem a.margin how (linear_line face.metrics a.ppem (text_glyphs face.cmap a.text)))
+    let gs = text_glyphs face.cmap a.text in
+    let all : label_glyphs face.cmap a.text ≡ gs = rw one (append-nil gs) in
+    let line = advance_line face a.ppem gs in
+    rw (is, all, one) (after_outlines (as_font (advances_tested face gs)) line
+    (λ line. as_job (label_placement face.metrics a.ppem a.margin how (line ∷ []))) (laid_line face a)
+    (one_line_placed face.metrics a.ppem a.margin how line))
 
 after_test : (t : Result (Unit {0}) Refused) (x : Result (List Placement) Refused) (y : Result Placement Refused)
     → x ≡ (y >>= λ l. Ok (l ∷ [])) → (t >>= λ u. x) ≡ ((t >>= λ u. y) >>= λ l. Ok (l ∷ []))
@@ -244,7 +251,7 @@ steps_laid m ppem margin gs line numbers =
           ∙ ap (λ (ns : List ℕ). by ns (within_limits e)) numbers)
     ]
 
-empty_after : (r : Result (List Outline) Refused) (line : List (ℕ × ℕ)) (h k : List (ℕ × ℕ) → Result Placement Refused) (e : Refused)
+empty_after : {X : Type 0} (r : Result X Refused) (line : List (ℕ × ℕ)) (h k : List (ℕ × ℕ) → Result Placement Refused) (e : Refused)
     → (k line ≡ Err e) ⊎ (h line ≡ k line)
     → ((r >>= λ os. k line) ≡ Err e) ⊎ (((r >>= λ os. Ok line) >>= h) ≡ (r >>= λ os. k line))
 empty_after (Ok os) line h k e told = told
@@ -260,7 +267,7 @@ empty_by_setting (Err d) f line h k e told = inr refl
 
 text_laid : (bounded : Bool) (face : Face) (a : Job) → is_bounded a.fit ≡ bounded
     → (text_placed face a ≡ Err (job fault.EmptyPicture)) ⊎ ((steps_outcome face a >>= laid_line face a) ≡ text_placed face a)
-unfolding text_placed placed_by_steps placement steps_outcome
+unfolding text_placed placed_by_steps placed_by_units steps_outcome
 text_laid true face a is =
     let gs = text_glyphs face.cmap a.text in
     let line : Fitter → List (ℕ × ℕ) = λ s. made_line face.metrics a.ppem s gs in
@@ -270,7 +277,11 @@ text_laid true face a is =
     (λ s. steps_laid face.metrics a.ppem a.margin gs (line s) (firsts face.metrics (step_by face.metrics a.ppem (advance_with s gs)) gs)))
 text_laid false face a is =
     let gs = text_glyphs face.cmap a.text in
-    rw is (steps_laid face.metrics a.ppem a.margin gs (linear_line face.metrics a.ppem gs) (firsts face.metrics (step_in_pixels face.metrics a.ppem) gs))
+    let line = advance_line face a.ppem gs in
+    let plain : List (ℕ × ℕ) → Result Placement Refused =
+    λ steps. as_job (laid_by_steps face.metrics a.ppem a.margin gs steps) in
+    rw is (empty_after (as_font (advances_tested face gs)) line (laid_line face a) plain (job fault.EmptyPicture)
+    (steps_laid face.metrics a.ppem a.margin gs line (firsts face.metrics (advance_step face a.ppem) gs)))
 
 empty_after_test : (t : Result (Unit {0}) Refused) (x y : Result Placement Refused) (e : Refused) → (y ≡ Err e) ⊎ (x ≡ y)
     → ((t >>= λ u. y) ≡ Err e) ⊎ ((t >>= λ u. x) ≡ (t >>= λ u. y))

@@ -5,11 +5,16 @@ use Rattle.std.proofs.lemmas.List.Elements.{All-cons, All-head, All-nil, All-tai
 use Rattle.std.proofs.lemmas.List.Sums.{sum_by-cons}
 use Rattle.std.specs.List.{flat_map, sum_by}
 use Rattle.std.specs.Prelude.{All, IfSome}
+use Rattle.tt_advances.specs.Found.{advances_tested}
+use Rattle.tt_advances.specs.Lines.{advance_step}
 use Rattle.tt_core.specs.declared.draw_fault.DrawFault.{DrawFault}
-use Rattle.tt_core.specs.Chains.{was-err}
+use Rattle.tt_core.specs.Chains.{came-through, was-err}
+use Rattle.tt_core.specs.declared.font_fault.FontFault.{FontFault}
+use Rattle.tt_core.specs.declared.font_fault.FontFault.TheVariants as fault
+use Rattle.tt_core.specs.Faults.{Fault}
 use Rattle.tt_core.specs.Limits.{text_limit}
 use Rattle.tt_core.specs.declared.fault.JobFault.{JobFault}
-use Rattle.tt_core.specs.Outcomes.{IfTold}
+use Rattle.tt_core.specs.Outcomes.{◌>>=◌, IfTold, draw_fault_of_font, font_fault}
 use Rattle.tt_face.specs.Faces.{Face}
 use Rattle.tt_fit.specs.Fitting.{Fitter}
 use Rattle.tt_fit.specs.outline.Outline.{Outline}
@@ -19,7 +24,6 @@ use Rattle.tt_label.proofs.Joined.{each_short}
 use Rattle.tt_metrics.specs.Metrics.{Metrics}
 use Rattle.tt_rows.specs.Rows.{one_at_least}
 use Rattle.tt_line.specs.Layout.{Placement}
-use Rattle.tt_line.specs.Steps.{step_in_pixels}
 use Rattle.tt_picture.specs.Glyphs.{Glyph}
 use Rattle.tt_picture.specs.Steps.{step_by}
 use Rattle.tt_rows.specs.declared.unit.RowUnit.{RowUnit}
@@ -28,7 +32,7 @@ use Rattle.tt_strike.specs.Fitted.{outlines_made}
 use Rattle.tt_strike.specs.Job.{Job, tested}
 use Rattle.tt_strike.specs.Made.{AreMade, shapes_made}
 use Rattle.tt_strike.specs.Picture.{advance_with, outlines_tested, setting_in}
-use Rattle.tt_strike.specs.Refusals.{Refused, as_font, job, refusal}
+use Rattle.tt_strike.specs.Refusals.{Refused, as_font, font, job, refusal}
 use Rattle.tt_strike.specs.Strikes.{SizedFace, job_by, job_with}
 use Rattle.tt_strike.specs.Work.{is_bounded}
 use Rattle.tt_strike.proofs.Stopped.{stops}
@@ -39,15 +43,15 @@ pub bounded_step : (face : Face) (a : Job) (s : Fitter) → is_bounded a.fit ≡
 bounded_step face a s is = rw is refl
 
 pub unbounded_step : (face : Face) (a : Job) (s : Fitter) → is_bounded a.fit ≡ false
-    → units_in face a s ≡ stepped_lines face.metrics (step_in_pixels face.metrics a.ppem) (text_units face.cmap a.text)
+    → units_in face a s ≡ stepped_lines face.metrics (advance_step face a.ppem) (text_units face.cmap a.text)
 unbounded_step face a s is = rw is refl
 
 -- where the making of the glyphs stops
 no_units : (face : Face) (a : Job) (r : Refused) → is_bounded a.fit ≡ true → outlines_made face a.ppem a.fit (units_glyphs face a) ≡ Err r
     → units_made face a ≡ Err r
 no_units face a r bounded fails = elim (was-err (as_font (setting_in face a)) _ r fails) [
-  | inl first ↦ rw first refl
-  | inr later ↦ rw (later.first, bounded, later.rest) refl
+  | inl first ↦ rw (bounded, first) refl
+  | inr later ↦ rw (bounded, later.first, later.rest) refl
 ]
 
 pub outlines_stop_units : (face : Face) (a : Job) (e : DrawFault) → is_bounded a.fit ≡ true
@@ -58,25 +62,45 @@ outlines_stop_units face a e bounded =
 
 pub outlines_make_units : (face : Face) (a : Job) (s : Fitter) (os : List Outline) → is_bounded a.fit ≡ true → setting_in face a ≡ Ok s
     → outlines_tested s a.fit (units_glyphs face a) ≡ Ok os → units_made face a ≡ Ok s
-outlines_make_units face a s os bounded there made = rw (there, bounded, made) refl
+outlines_make_units face a s os bounded there made = rw (bounded, there, made) refl
 
 -- the same where work is not bounded
-broke : (face : Face) (a : Job) (r : Refused) → is_bounded a.fit ≡ false
+broke : (face : Face) (a : Job) (r : Refused) → is_bounded a.fit ≡ false → advances_tested face (units_glyphs face a) ≡ Ok tt
     → shapes_made face a (gathered (units_glyphs face a)) ≡ Err r → units_made face a ≡ Err r
-broke face a r unbounded fails = elim (was-err (as_font (setting_in face a)) _ r fails) [
-  | inl first ↦ rw first refl
-  | inr later ↦ rw (later.first, unbounded, later.rest) refl
+broke face a r unbounded found fails = elim (was-err (as_font (setting_in face a)) _ r fails) [
+  | inl first ↦ rw (unbounded, found, first) refl
+  | inr later ↦ rw (unbounded, found, later.first, later.rest) refl
 ]
 
-pub shapes_stop_units : (face : Face) (a : Job) (e : DrawFault) → is_bounded a.fit ≡ false
+-- advances that are not found
+not_found : (face : Face) (a : Job) (f : Fault) → is_bounded a.fit ≡ false → advances_tested face (units_glyphs face a) ≡ Err f
+    → units_made face a ≡ Err (font f)
+not_found face a f unbounded fails = rw (unbounded, fails) refl
+
+pub units_stop_units : (face : Face) (a : Job) (e : FontFault) → is_bounded a.fit ≡ false
+    → IfSome (font_fault e) (λ f. advances_tested face (units_glyphs face a) ≡ Err f)
+    → IfSome (refusal (draw_fault_of_font e)) (λ r. units_made face a ≡ Err r)
+units_stop_units face a (fault.Font f) unbounded fails = not_found face a f unbounded fails
+units_stop_units face a fault.Memory unbounded fails = tt
+
+pub shapes_stop_units : (face : Face) (a : Job) (e : DrawFault) → is_bounded a.fit ≡ false → advances_tested face (units_glyphs face a) ≡ Ok tt
     → IfSome (refusal e) (λ r. shapes_made face a (gathered (units_glyphs face a)) ≡ Err r)
     → IfSome (refusal e) (λ r. units_made face a ≡ Err r)
-shapes_stop_units face a e unbounded =
-    stops e (shapes_made face a (gathered (units_glyphs face a))) (units_made face a) (λ r fails. broke face a r unbounded fails)
+shapes_stop_units face a e unbounded found =
+    stops e (shapes_made face a (gathered (units_glyphs face a))) (units_made face a) (λ r fails. broke face a r unbounded found fails)
 
-pub shapes_make_units : (face : Face) (a : Job) (gs : List Glyph) → is_bounded a.fit ≡ false
+pub shapes_make_units : (face : Face) (a : Job) (gs : List Glyph) → is_bounded a.fit ≡ false → advances_tested face (units_glyphs face a) ≡ Ok tt
     → (made : AreMade face a (gathered (units_glyphs face a)) gs) → units_made face a ≡ Ok made.setting
-shapes_make_units face a gs unbounded made = rw (made.opened, unbounded, made.few, made.fitted, made.seldom) refl
+shapes_make_units face a gs unbounded found made = rw (unbounded, found, made.opened, made.few, made.fitted, made.seldom) refl
+
+-- rows whose advances are found
+pub rows_found : (face : Face) (ppem : ℕ) (ls lines : List (List RowUnit))
+    → (advances_tested face (all_glyphs ls) >>= λ u. Ok (stepped_lines face.metrics (advance_step face ppem) ls)) ≡ Ok lines
+    → (advances_tested face (all_glyphs ls) ≡ Ok tt) × (lines ≡ stepped_lines face.metrics (advance_step face ppem) ls)
+rows_found face ppem ls lines found =
+    let both = came-through (advances_tested face (all_glyphs ls)) _ lines found in
+    let last = both.rest in
+    let same : stepped_lines face.metrics (advance_step face ppem) ls ≡ lines = cc in (both.first, sym same)
 
 -- lines with steps are as long as those without
 length_stepped : (m : Metrics) (step : ℕ → ℤ → ℕ) (us : List RowUnit) → length (stepped_units m step us) ≡ length us

@@ -25,7 +25,7 @@ use Rattle.tt_picture.specs.Distinct.{distinct, distinct_after, is_among, with_g
 use Rattle.tt_picture.specs.Fitted.{AreFitted, FittedGlyph, fitted_chords, fitted_numbers}
 use Rattle.tt_picture.specs.Steps.{glyph_chords, outlines_by}
 use Rattle.tt_picture.proofs.Outlines.{chords_are}
-use Rattle.tt_strike.specs.Defects.{IsGlyphDefect, IsLineDefect, IsLineRefusal, steps_extent}
+use Rattle.tt_strike.specs.Defects.{IsGlyphDefect, IsMadeDefect, IsLineRefusal, steps_extent}
 use Rattle.tt_strike.specs.Fitted.{outlines_made}
 use Rattle.tt_strike.specs.Job.{Job, tested}
 use Rattle.tt_strike.specs.Made.{text_shapes}
@@ -158,7 +158,7 @@ not_of_font (Ok x) j was = absurd cc
 not_of_font (Err f) j was = absurd cc
 
 pub outlines_tell_defect : (face : Face) (a : Job) (s : Fitter) (gs : List ℕ) (e : DrawFault) → setting_in face a ≡ Ok s
-    → IfSome (refusal e) (λ r. outlines_tested s a.fit gs ≡ Err r) → IfSome (draw_font_fault e) (IsLineDefect face a gs)
+    → IfSome (refusal e) (λ r. outlines_tested s a.fit gs ≡ Err r) → IfSome (draw_font_fault e) (IsMadeDefect face a gs)
 outlines_tell_defect face a s gs (draw.Font f) there fails =
     let points = asked_tested a.fit s gs in
     elim (was-err (as_job points) _ (outcome.font f) fails) [

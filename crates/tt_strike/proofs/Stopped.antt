@@ -1,7 +1,10 @@
 -- A step of a drawing that stops also stops the picture.
-use Rattle.std.proofs.Common.{◌≡◌, ℕ, ◌<◌, ◌≤◌, nat_lt, Bool, true, false, ◌&&◌, if◌then◌else◌, List, map, Result, Ok, Err, inl, inr, refl, arith}
+use Rattle.std.proofs.Common.{◌≡◌, ap, sym, ℕ, ◌<◌, ◌≤◌, nat_lt, Bool, true, false, ◌&&◌, if◌then◌else◌, List, map, Result, Ok, Err, inl, inr, refl, arith}
 use Rattle.std.proofs.lemmas.Bool.Decides.{nat_tests}
-use Rattle.std.specs.Prelude.{IfSome}
+use Rattle.std.specs.Prelude.{IfSome, IsOkAnd}
+use Rattle.tt_advances.proofs.Advances.{plain_advances}
+use Rattle.tt_advances.specs.Found.{advances_tested}
+use Rattle.tt_advances.specs.Lines.{advance_extent, advance_steps}
 use Rattle.tt_core.specs.Chains.{was-err}
 use Rattle.tt_core.specs.declared.font_fault.FontFault.{FontFault}
 use Rattle.tt_core.specs.declared.font_fault.FontFault.TheVariants as font
@@ -16,11 +19,12 @@ use Rattle.tt_line.specs.declared.line.Line.{Line}
 use Rattle.tt_fit.specs.declared.programs.Fit.{Fit}
 use Rattle.tt_line.specs.Layout.{Placement, extent_of, placement, text_glyphs, IsRefusal}
 use Rattle.tt_line.specs.Outcome.{placement_of}
+use Rattle.tt_line.specs.Steps.{linear_steps}
 use Rattle.tt_strike.specs.Job.{Job, margin_tested, size_tested, tested, text_tested}
 use Rattle.tt_strike.specs.Defects.{AsksTooMuch, IsTooMuchWork, IsLineRefusal}
-use Rattle.tt_face.specs.Faces.{Face}
+use Rattle.tt_face.specs.Faces.{Face, finds_advances}
 use Rattle.tt_strike.specs.Refusals.{Refused, as_font, as_job, job, refusal}
-use Rattle.tt_strike.specs.Picture.{edges_tested, drawn, laid_out, line_outcome, line_shapes, pictured_by, shapes_in, points_tested, setting_in, text_placed}
+use Rattle.tt_strike.specs.Picture.{edges_tested, drawn, laid_out, line_outcome, line_shapes, pictured_by, placed_by_units, shapes_in, points_tested, setting_in, text_placed}
 use Rattle.tt_core.specs.declared.draw_fault.DrawFault.{DrawFault}
 use Rattle.tt_core.specs.declared.draw_fault.DrawFault.TheVariants as draw
 use Rattle.tt_strike.specs.Strikes.{SizedFace, job_by}
@@ -30,7 +34,7 @@ use Rattle.tt_strike.specs.Measures.{measured, measured_line}
 use Rattle.tt_picture.specs.Pixels.{Shape}
 use Rattle.tt_picture.specs.Shapes.{crossings_in}
 use Rattle.tt_strike.specs.Work.{asked_tested, chord_limit, chords_in, counts_tested, crossings_allowed, deltas_in, edges_limited, is_bounded, points_in, work_left, work_tested}
-use Rattle.tt_strike.proofs.Placed.{placed_by_advances}
+use Rattle.tt_strike.proofs.Placed.{placed_by_advances, placed_by_its_units}
 
 -- a font at a size has passed the test of its size
 pub tested_at : (z : SizedFace) (text : List ℕ) (margin : ℕ) → 1 ≤ z.ppem → z.ppem ≤ size_limit
@@ -41,14 +45,32 @@ tested_at z text margin low high =
     let few : nat_lt size_limit z.ppem ≡ false = grind (arith, nat_tests) in
     rw (some, few) refl
 
--- a line of a tested job is laid out by advances, or refused, as its text is placed
+-- a line of a tested job is laid out by the advances of the tables, or refused, as its text is placed
 pub laid_as_placed : (a : Job) (face : Face) (r : Result Line DrawFault) → tested a ≡ Ok tt → is_bounded a.fit ≡ false
-    → JobGives placement_of r (placement face.metrics face.cmap a.text a.ppem a.margin)
+    → finds_advances face ≡ false → JobGives placement_of r (placement face.metrics face.cmap a.text a.ppem a.margin)
     → GivesUnless refusal placement_of r (laid_out face a)
-laid_as_placed a face (Ok l) passes other gives = rw (passes, placed_by_advances face a other, gives) refl
-laid_as_placed a face (Err (draw.Font f)) passes other gives = absurd gives
-laid_as_placed a face (Err (draw.Job j)) passes other gives = rw (passes, placed_by_advances face a other, gives) refl
-laid_as_placed a face (Err draw.Memory) passes other gives = tt
+laid_as_placed a face (Ok l) passes other off gives = rw (passes, placed_by_advances face a other off, gives) refl
+laid_as_placed a face (Err (draw.Font f)) passes other off gives = absurd gives
+laid_as_placed a face (Err (draw.Job j)) passes other off gives = rw (passes, placed_by_advances face a other off, gives) refl
+laid_as_placed a face (Err draw.Memory) passes other off gives = tt
+
+-- a test that stops before a value, or is passed
+pub test_stops : {Y E : Type 0} (x : Result (Unit {0}) E) (y : Y) (f : E) → (x >>= λ u. Ok y) ≡ Err f → x ≡ Err f
+test_stops (Ok u) y f was = absurd cc
+test_stops (Err e) y f was = cc
+
+pub test_passes : {Y E : Type 0} (x : Result (Unit {0}) E) (y z : Y) → (x >>= λ u. Ok y) ≡ Ok z → (x ≡ Ok tt) × (z ≡ y)
+test_passes (Ok tt) y z was = (refl, let same : y ≡ z = cc in sym same)
+test_passes (Err e) y z was = absurd cc
+
+-- advances that are not found stop the layout
+pub units_stop : (face : Face) (a : Job) (e : FontFault) (line : List (ℕ × ℕ))
+    → IfSome (font_fault e) (λ f. (advances_tested face (text_glyphs face.cmap a.text) >>= λ u. Ok line) ≡ Err f)
+    → IfSome (refusal (draw_fault_of_font e)) (λ r. placed_by_units face a ≡ Err r)
+unfolding placed_by_units
+units_stop face a (font.Font f) line fails =
+    rw (test_stops (advances_tested face (text_glyphs face.cmap a.text)) line f fails) refl
+units_stop face a font.Memory line fails = tt
 
 -- a stop in opening the fitter, or in making a glyph, stops the line
 pub setting_stops : (face : Face) (a : Job) (l : Placement) (e : FontFault)
@@ -126,9 +148,13 @@ pub unbounded_edges : (s : Fitter) (a : Job) (l : Placement) (glyphs : List Shap
 unfolding edges_limited work_tested
 unbounded_edges s a l glyphs other = rw other refl
 
+-- the extent of a line by its advances, once these are found, is refused
+abbrev pub RefusesExtent : Face → Job → JobFault → Type 0
+RefusesExtent face a j = IsOkAnd (advances_tested face (text_glyphs face.cmap a.text))
+    (λ u. IsRefusal (advance_extent face a.ppem a.margin (text_glyphs face.cmap a.text)) j)
+
 -- a refused extent is a refusal of the line by its font
-pub extent_tells : (face : Face) (a : Job) (j : JobFault) → is_bounded a.fit ≡ false
-    → IsRefusal (extent_of face.metrics a.ppem a.margin (text_glyphs face.cmap a.text)) j → IsLineRefusal face a j
+pub extent_tells : (face : Face) (a : Job) (j : JobFault) → is_bounded a.fit ≡ false → RefusesExtent face a j → IsLineRefusal face a j
 extent_tells face a job_of.SizeRange other stands = absurd stands
 extent_tells face a job_of.TextLong other stands = absurd stands
 extent_tells face a job_of.EmptyPicture other stands = rw other stands
@@ -136,13 +162,36 @@ extent_tells face a job_of.PictureLarge other stands = rw other stands
 extent_tells face a job_of.MarginRange other stands = absurd stands
 extent_tells face a job_of.WorkLarge other stands = absurd stands
 
-pub laying_tells : (a : Job) (face : Face) (r : Result Line DrawFault) → is_bounded a.fit ≡ false
+-- so is that by the advances of the tables
+plain_refuses : (face : Face) (a : Job) (j : JobFault) → finds_advances face ≡ false
+    → IsRefusal (extent_of face.metrics a.ppem a.margin (text_glyphs face.cmap a.text)) j → RefusesExtent face a j
+plain_refuses face a j off stands =
+    let gs = text_glyphs face.cmap a.text in
+    let plain = plain_advances face off in
+    let steps : advance_steps face a.ppem gs ≡ linear_steps face.metrics a.ppem gs =
+    ap (λ (line : List (ℕ × ℕ)). map (λ (g : ℕ × ℕ). g.1) line) (plain.line a.ppem gs) in
+    rw (plain.tested gs, steps) stands
+
+pub laying_tells : (a : Job) (face : Face) (r : Result Line DrawFault) → is_bounded a.fit ≡ false → finds_advances face ≡ false
     → IfTold draw_job_fault r (IsRefusal (extent_of face.metrics a.ppem a.margin (text_glyphs face.cmap a.text)))
     → IfTold draw_job_fault r (IsLineRefusal face a)
-laying_tells a face (Ok l) other stands = tt
-laying_tells a face (Err (draw.Font f)) other stands = tt
-laying_tells a face (Err (draw.Job j)) other stands = extent_tells face a j other stands
-laying_tells a face (Err draw.Memory) other stands = tt
+laying_tells a face (Ok l) other off stands = tt
+laying_tells a face (Err (draw.Font f)) other off stands = tt
+laying_tells a face (Err (draw.Job j)) other off stands = extent_tells face a j other (plain_refuses face a j off stands)
+laying_tells a face (Err draw.Memory) other off stands = tt
+
+-- and that of a line whose advances are found
+pub found_tells : {X : Type 0} (a : Job) (face : Face) (r : Result X DrawFault) → is_bounded a.fit ≡ false
+    → IfTold draw_job_fault r (RefusesExtent face a) → IfTold draw_job_fault r (IsLineRefusal face a)
+found_tells a face (Ok l) other stands = tt
+found_tells a face (Err (draw.Font f)) other stands = tt
+found_tells a face (Err (draw.Job j)) other stands = extent_tells face a j other stands
+found_tells a face (Err draw.Memory) other stands = tt
+
+-- a tested text that is placed by advances is laid out so
+pub found_as_placed : {X : Type 0} (view : X → Placement) (a : Job) (face : Face) (r : Result X DrawFault) → tested a ≡ Ok tt
+    → is_bounded a.fit ≡ false → GivesUnless refusal view r (placed_by_units face a) → GivesUnless refusal view r (laid_out face a)
+found_as_placed view a face r passes other gives = rw (passes, placed_by_its_units face a other) gives
 
 -- laying out finds no defect of the font, and drawing refuses no job
 pub laying_tells_no_defect : (P : Fault → Type 0) (r : Result Line DrawFault) (wanted : Result Placement JobFault)

@@ -1,5 +1,5 @@
 -- The steps of a text and what is made of them, its size and its pens: where each stops, and what each is.
-use Rattle.std.proofs.Common.{◌≡◌, ◌∙◌, refl, sym, ap, ℕ, ◌+◌, ◌*◌, ◌≤◌, Bool, true, false, ◌||◌, ◌==◌, if◌then◌else◌, nat_lt, ℤ, pos, ◌+ℤ◌, int_lt, unsigned_abs, List, chars, map, sum, Result, Ok, Err, arith}
+use Rattle.std.proofs.Common.{◌≡◌, ◌∙◌, refl, sym, ap, ℕ, ◌+◌, ◌*◌, ◌≤◌, Bool, true, false, ◌||◌, ◌==◌, if◌then◌else◌, nat_lt, ℤ, pos, ◌+ℤ◌, int_lt, unsigned_abs, List, chars, map, sum, Result, Ok, Err, inr, arith}
 use Rattle.std.specs.Prelude.{IfSome}
 use Rattle.std.proofs.lemmas.Int.{ints}
 use Rattle.tt_cmap.specs.Maps.{units_by}
@@ -11,8 +11,10 @@ use Rattle.tt_core.specs.declared.fault.JobFault.TheVariants as job_of
 use Rattle.tt_core.specs.Faults.{Fault}
 use Rattle.tt_core.specs.Limits.{height_limit, width_limit}
 use Rattle.tt_core.specs.Directory.{HasNo}
-use Rattle.tt_core.specs.Outcomes.{each}
-use Rattle.tt_face.specs.Faces.{Face}
+use Rattle.tt_core.specs.Outcomes.{draw_font_fault, each}
+use Rattle.tt_advances.proofs.Advances.{plain_advances}
+use Rattle.tt_advances.specs.Defects.{IsAdvanceDefect}
+use Rattle.tt_face.specs.Faces.{Face, finds_advances}
 use Rattle.tt_fit.specs.Fitting.{Fitter}
 use Rattle.tt_fit.specs.outline.Outline.{Outline}
 use Rattle.tt_line.specs.declared.extent.PictureExtent.{PictureExtent}
@@ -23,10 +25,10 @@ use Rattle.tt_line.specs.Sizes.{extent_by_sum, line_size, size_of}
 use Rattle.tt_metrics.specs.Metrics.{Metrics}
 use Rattle.tt_picture.specs.Pixels.{Shape}
 use Rattle.tt_picture.specs.Shapes.{glyph_shape}
-use Rattle.tt_strike.specs.Defects.{IsLineDefect, IsSettingDefect}
+use Rattle.tt_strike.specs.Defects.{IsLineDefect, IsMadeDefect, IsSettingDefect, TellsDefects}
 use Rattle.tt_strike.specs.Fitted.{outlines_made}
 use Rattle.tt_strike.specs.Job.{Job, tested}
-use Rattle.tt_strike.specs.Layouts.{TellsMadeDefects, layout_by, layout_outcome, pens_at, pens_outcome, size_outcome, steps_outcome}
+use Rattle.tt_strike.specs.Layouts.{HasLayoutDefect, LayoutDefectBy, found_steps, layout_by, layout_outcome, pens_at, pens_outcome, size_outcome, steps_outcome}
 use Rattle.tt_strike.specs.Picture.{made_line, outlines_tested, setting_in}
 use Rattle.tt_strike.specs.Refusals.{Refused, as_font, as_job, job, refusal}
 use Rattle.tt_strike.specs.Strikes.{SizedFace, job_by}
@@ -54,10 +56,16 @@ pub steps_by_outlines : (face : Face) (a : Job) (s : Fitter) (os : List Outline)
 unfolding steps_outcome
 steps_by_outlines face a s os line bounded there made is = rw (bounded, there, made, is) refl
 
-pub steps_by_advances : (face : Face) (a : Job) → is_bounded a.fit ≡ false
+pub steps_by_units : (face : Face) (a : Job) → is_bounded a.fit ≡ false → steps_outcome face a ≡ found_steps face a
+unfolding steps_outcome
+steps_by_units face a other = rw other refl
+
+pub steps_by_advances : (face : Face) (a : Job) → is_bounded a.fit ≡ false → finds_advances face ≡ false
     → steps_outcome face a ≡ Ok (linear_line face.metrics a.ppem (text_glyphs face.cmap a.text))
 unfolding steps_outcome
-steps_by_advances face a other = rw other refl
+steps_by_advances face a other off =
+    let plain = plain_advances face off in
+    rw (other, plain.tested (text_glyphs face.cmap a.text)) (ap Ok (plain.line a.ppem (text_glyphs face.cmap a.text)))
 
 -- a refused test stops the size and the pens, and so does a stop in the steps
 pub test_stops_size : (face : Face) (a : Job) (j : JobFault) → tested a ≡ Err j → size_outcome face a ≡ Err (job j)
@@ -86,11 +94,11 @@ pub size_is : (face : Face) (a : Job) (steps : List (ℕ × ℕ)) → tested a �
 unfolding size_outcome
 size_is face a steps passes made = rw (passes, made) refl
 
-pub size_by_its_advances : (face : Face) (a : Job) → tested a ≡ Ok tt → is_bounded a.fit ≡ false
+pub size_by_its_advances : (face : Face) (a : Job) → tested a ≡ Ok tt → is_bounded a.fit ≡ false → finds_advances face ≡ false
     → size_outcome face a ≡ as_job (line_size face.metrics a.ppem a.margin
     (sum (linear_steps face.metrics a.ppem (text_glyphs face.cmap a.text))))
-size_by_its_advances face a passes other =
-    size_is face a (linear_line face.metrics a.ppem (text_glyphs face.cmap a.text)) passes (steps_by_advances face a other)
+size_by_its_advances face a passes other off =
+    size_is face a (linear_line face.metrics a.ppem (text_glyphs face.cmap a.text)) passes (steps_by_advances face a other off)
 
 pub layout_is : (face : Face) (a : Job) (steps : List (ℕ × ℕ)) (z : LineSize) → tested a ≡ Ok tt
     → steps_outcome face a ≡ Ok steps → line_size face.metrics a.ppem a.margin (sum (map (λ g. g.1) steps)) ≡ Ok z
@@ -111,32 +119,42 @@ unfolding pens_outcome
 pens_are face a steps z passes made sized = rw (passes, made, sized) refl
 
 -- a fault of the job is none of the font
-no_defect : {V : Type 0} (made : Bool) (IsOne : Fault → Type 0) (r : Result V DrawFault) (j : JobFault)
-    → r ≡ Err (draw.Job j) → TellsMadeDefects made IsOne r
-no_defect true IsOne r j is = rw is tt
-no_defect false IsOne r j is = rw is tt
-
 pub no_defect_of_job : {V : Type 0} (z : SizedFace) (text : List ℕ) (margin : ℕ) (r : Result V DrawFault) (j : JobFault)
     → r ≡ Err (draw.Job j)
-    → TellsMadeDefects (is_bounded z.fit) (IsLineDefect z.face (job_by z text margin) (text_glyphs z.face.cmap text)) r
-no_defect_of_job z text margin r j is =
-    no_defect (is_bounded z.fit) (IsLineDefect z.face (job_by z text margin) (text_glyphs z.face.cmap text)) r j is
+    → TellsDefects draw_font_fault (HasLayoutDefect z.face (job_by z text margin) (text_glyphs z.face.cmap text)) r
+no_defect_of_job z text margin r j is = rw is tt
 
 -- what is told of a stop, and of a value, is told of all that is made of the value
-pub told_on : {V W : Type 0} (made : Bool) (IsOne : Fault → Type 0) (r : Result V DrawFault) (q : Result W DrawFault)
-    (e : DrawFault) → r ≡ Err e → q ≡ Err e → TellsMadeDefects made IsOne r → TellsMadeDefects made IsOne q
-told_on true IsOne r q e was is tells = rw is (rw was at tells)
-told_on false IsOne r q e was is tells = rw is (rw was at tells)
+pub told_on : {V W : Type 0} (IsOne : Fault → Type 0) (r : Result V DrawFault) (q : Result W DrawFault)
+    (e : DrawFault) → r ≡ Err e → q ≡ Err e → TellsDefects draw_font_fault IsOne r → TellsDefects draw_font_fault IsOne q
+told_on IsOne r q e was is tells = rw is (rw was at tells)
 
-pub sound_on : {V W : Type 0} (made : Bool) (IsOne : Fault → Type 0) (r : Result V DrawFault) (q : Result W DrawFault)
-    (v : V) (w : W) → r ≡ Ok v → q ≡ Ok w → TellsMadeDefects made IsOne r → TellsMadeDefects made IsOne q
-sound_on true IsOne r q v w was is tells = rw is (rw was at tells)
-sound_on false IsOne r q v w was is tells = rw is tt
+pub sound_on : {V W : Type 0} (IsOne : Fault → Type 0) (r : Result V DrawFault) (q : Result W DrawFault)
+    (v : V) (w : W) → r ≡ Ok v → q ≡ Ok w → TellsDefects draw_font_fault IsOne r → TellsDefects draw_font_fault IsOne q
+sound_on IsOne r q v w was is tells = rw is (rw was at tells)
+
+-- a defect by which a text is not laid out is one of its line
+line_by : (bounded : Bool) (face : Face) (a : Job) (gs : List ℕ) (f : Fault) → is_bounded a.fit ≡ bounded
+    → LayoutDefectBy bounded face a gs f → IsLineDefect face a gs f
+line_by true face a gs f is stands = stands
+line_by false face a gs f is stands = inr (is, stands)
+
+pub layout_is_line : (face : Face) (a : Job) (gs : List ℕ) (f : Fault) → HasLayoutDefect face a gs f → IsLineDefect face a gs f
+layout_is_line face a gs f stands = line_by (is_bounded a.fit) face a gs f refl stands
+
+-- where work is bounded the two are the same, and elsewhere it is one of the advances
+pub bounded_tells : {V : Type 0} (face : Face) (a : Job) (gs : List ℕ) (r : Result V DrawFault) → is_bounded a.fit ≡ true
+    → TellsDefects draw_font_fault (IsLineDefect face a gs) r → TellsDefects draw_font_fault (HasLayoutDefect face a gs) r
+bounded_tells face a gs r bounded tells = rw bounded tells
+
+pub unbounded_tells : {V : Type 0} (face : Face) (a : Job) (gs : List ℕ) (r : Result V DrawFault) → is_bounded a.fit ≡ false
+    → TellsDefects draw_font_fault (IsAdvanceDefect face gs) r → TellsDefects draw_font_fault (HasLayoutDefect face a gs) r
+unbounded_tells face a gs r other tells = rw other tells
 
 -- a text whose glyphs are made, whatever their pens, has no defect
 pub sound_line : (face : Face) (a : Job) (s : Fitter) (gs : List ℕ) (line : List (ℕ × ℕ)) (shapes : List Shape)
     → setting_in face a ≡ Ok s → HasNo (IsSettingDefect face a) → map (λ g. g.0) line ≡ gs
-    → each (glyph_shape (line_fitter s gs)) line ≡ Ok shapes → HasNo (IsLineDefect face a gs)
+    → each (glyph_shape (line_fitter s gs)) line ≡ Ok shapes → HasNo (IsMadeDefect face a gs)
 sound_line face a s gs line shapes there sound glyphs made =
     rw (← glyphs) (no_line_defect face a s line shapes there sound (rw glyphs made))
 

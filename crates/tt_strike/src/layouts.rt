@@ -1,9 +1,10 @@
 //! The layout of a text without its ink: the size of its picture, its distance from a next line, and its pens.
 
-ghost use Rattle.std.specs.Prelude.{◌≡◌, ◌≤◌, true, false, length, map, chars, sum, IfErr, IfOk, Ok, OnOk};
+ghost use Rattle.std.specs.Prelude.{◌≡◌, ◌≤◌, ◌||◌, true, false, length, map, chars, sum, IfErr, IfOk, Ok, OnOk};
 ghost use Rattle.tt_core.specs.Limits.{margin_limit, text_limit, width_limit};
 ghost use Rattle.tt_core.specs.Outcomes.{GivesUnless, draw_font_fault};
 ghost use Rattle.tt_cmap.specs.Maps.{units_by};
+ghost use Rattle.tt_face.specs.Faces.{finds_advances};
 ghost use Rattle.tt_line.specs.Layout.{text_glyphs};
 ghost use Rattle.tt_strike.specs.Defects.{IsLineDefect, TellsDefects};
 ghost use Rattle.tt_strike.specs.Layouts.{HasLayoutDefect, IsNotMemory, ReadsNoGlyph, layout_by, layout_outcome, pens_at, pens_outcome, size_outcome, steps_outcome};
@@ -124,6 +125,13 @@ impl<'f, 'a> SizedFace<'f, 'a> {
         Ok(self.unit_steps(text)?)
     }
 
+    /// Whether a layout reads glyphs: with `Fit::Best`, and at an instance without HVAR.
+    fn reads_glyphs(&self) -> bool
+        ensures { result ≡ (is_bounded self.now.fit || finds_advances self.now.face) }
+    {
+        is_bounded(self.fit()) || self.finds_advances()
+    }
+
     /// Tests a margin and a text, and gives the size of the text's line. Without a bound of work no memory is taken, and
     /// no glyph is read, but at an instance without HVAR. Errors: as `layout`.
     fn line_size(&mut self, text: &str, margin: u32) -> Result<LineSize, DrawFault>
@@ -136,12 +144,10 @@ impl<'f, 'a> SizedFace<'f, 'a> {
         let source = self.source;
         test_margin(margin)?;
         test_text(text)?;
-        if is_bounded(source.fit) || self.finds_advances() {
+        if self.reads_glyphs() {
             let steps = self.steps(text)?;
             return Ok(size_by_steps(source.face.metrics(), &steps, source.ppem, margin)?);
         }
-        tt_advances::laws::tables_give_advances();
-        tt_advances::laws::found_advances_are_whole();
         Ok(size_by_advances(&mut self.known, text, margin)?)
     }
 

@@ -5,6 +5,8 @@ use Rattle.std.proofs.lemmas.List.Sums.{sum_by-cons}
 use Rattle.tt_cmap.specs.declared.units.TextUnit.{TextUnit}
 use Rattle.tt_cmap.specs.Maps.{glyph_of_unit, units_by}
 use Rattle.tt_core.specs.Chains.{came-through}
+use Rattle.tt_advances.specs.Found.{advances_tested}
+use Rattle.tt_advances.specs.Lines.{advance_line, advance_step}
 use Rattle.tt_face.specs.Faces.{Face}
 use Rattle.tt_line.specs.declared.measured.LineSize.{LineSize}
 use Rattle.tt_line.specs.Layout.{pen_at, text_glyphs}
@@ -40,9 +42,9 @@ unfolding pens_outcome
 pens_alike face other a steps metrics cmap = rw (steps, metrics, cmap) (refl {a = pens_outcome face a})
 
 pub no_glyph_is_read : NoGlyphIsRead
-no_glyph_is_read face other a unbounded metrics cmap =
+no_glyph_is_read face other a unbounded off other_off metrics cmap =
     let steps : steps_outcome other a ≡ steps_outcome face a =
-    rw (steps_by_advances other a unbounded, steps_by_advances face a unbounded, metrics, cmap) refl in
+    rw (steps_by_advances other a unbounded other_off, steps_by_advances face a unbounded off, metrics, cmap) refl in
     (layout_alike face other a (size_alike face other a steps metrics) cmap, pens_alike face other a steps metrics cmap)
 
 pub ok_same : {X : Type 0} (x y : X) → ◌≡◌ {A = Result X Refused} (Ok x) (Ok y) → x ≡ y
@@ -60,8 +62,9 @@ glyphs_of_steps true face a steps is was =
     rw (← same) (firsts face.metrics (step_by face.metrics a.ppem (advance_with s gs)) gs)
 glyphs_of_steps false face a steps is was =
     let gs = text_glyphs face.cmap a.text in
-    let same = ok_same (linear_line face.metrics a.ppem gs) steps (rw is at was) in
-    rw (← same) (firsts face.metrics (step_in_pixels face.metrics a.ppem) gs)
+    let by_test = came-through (as_font (advances_tested face gs)) _ steps (rw is at was) in
+    let same = ok_same (advance_line face a.ppem gs) steps by_test.rest in
+    rw (← same) (firsts face.metrics (advance_step face a.ppem) gs)
 
 -- as many units as glyphs with steps, so each step is an advance
 pub units_as_steps : (face : Face) (a : Job) (steps : List (ℕ × ℕ)) → steps_outcome face a ≡ Ok steps

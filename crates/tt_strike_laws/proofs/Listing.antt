@@ -17,9 +17,9 @@ use Rattle.tt_strike.specs.Picture.{line_shapes, setting, setting_in, text_place
 use Rattle.tt_strike.specs.Refusals.{Refused, as_font}
 use Rattle.tt_strike.specs.Report.{line_report, report_by, report_of}
 use Rattle.tt_face.specs.Faces.{Face, glyphs_in}
-use Rattle.tt_face.specs.Files.{face_with}
+use Rattle.tt_face.specs.Instance.{face_at_instance}
 use Rattle.tt_strike.specs.Programs.{programs_in}
-use Rattle.tt_strike.specs.Work.{line_fitter, point_work, points_in, started}
+use Rattle.tt_strike.specs.Work.{asked_work, line_fitter, started}
 use Rattle.tt_strike.proofs.Placed.{of-font}
 
 -- with no fault that makes a glyph unfitted, none is listed
@@ -67,19 +67,19 @@ line_lists_nothing laws face a line entries was other =
     let by_programs = came-through (programs_in face a.fit) _ s by_tables.rest in
     let all = map (λ g. g.0) line.glyphs in
     let numbers = distinct all in
-    let unbounded = laws.others face.metrics by_tables.value by_programs.value a.ppem a.fit s (not_best a.fit other)
+    let unbounded = laws.others face.metrics by_tables.value by_programs.value face.instance a.ppem a.fit s (not_best a.fit other)
     by_programs.rest in
     let stays : (g : ℕ) → after_glyph s g ≡ s = λ g. (laws.stays s g unbounded.0).1 in
-    let same : started s all ≡ s = uncharged s (point_work * points_in s all) unbounded.0 in
+    let same : started s all ≡ s = uncharged s (asked_work s all) unbounded.0 in
     let none : (g : ℕ) → unfitted_fault (line_fitter s all g) g ≡ None = λ g. rw (same, stays_for s numbers g stays)
-    (laws.never face.metrics by_tables.value by_programs.value a.ppem a.fit s g other by_programs.rest) in
+    (laws.never face.metrics by_tables.value by_programs.value face.instance a.ppem a.fit s g other by_programs.rest) in
     let empty = none_listed (line_fitter s all) numbers none in
     ok_empty _ entries by_edges.rest empty
 
 pub others_list_nothing : FitLaws → OthersListNothing
 unfolding report_of report_by
-others_list_nothing laws r a file entries was other =
-    let by_face = came-through (as_font (face_with file r)) _ entries was in
+others_list_nothing laws r asked a file entries was other =
+    let by_face = came-through (as_font (face_at_instance file r asked)) _ entries was in
     let face = by_face.value in
     let by_line = came-through (text_placed face a) _ entries by_face.rest in
     let line = by_line.value in

@@ -5,6 +5,8 @@ use Rattle.tt_cmap.specs.declared.units.TextUnit.{TextUnit}
 use Rattle.tt_cmap.specs.Maps.{units_by}
 use Rattle.tt_core.specs.Chains.{came-through}
 use Rattle.tt_core.specs.Outcomes.{◌>>=◌}
+use Rattle.tt_advances.specs.Found.{advances_tested}
+use Rattle.tt_advances.specs.Lines as tables
 use Rattle.tt_face.specs.Faces.{Face}
 use Rattle.tt_fit.specs.Fitting.{Fitter}
 use Rattle.tt_line.specs.declared.extent.PictureExtent.{PictureExtent}
@@ -84,12 +86,13 @@ steps_told true face a s l gs is there numbers was =
     let those = ok_same (made_line face.metrics a.ppem t ns) gs by_outlines.rest in
     let own : ℕ → ℤ → ℕ = λ g k. kerned_step face.metrics a.ppem (advance_with s (map (λ g. g.0) l.glyphs) g) k in
     let told : stepped face.metrics own ns ≡ made_line face.metrics a.ppem t ns = rw (same, numbers) refl in
-    sym those ∙ sym told ∙ sym (own_steps (is_bounded a.fit) face.metrics own (step_in_pixels face.metrics a.ppem) ns is)
+    sym those ∙ sym told ∙ sym (own_steps (is_bounded a.fit) face.metrics own (tables.advance_step face a.ppem) ns is)
 steps_told false face a s l gs is there numbers was =
     let ns = text_glyphs face.cmap a.text in
-    let those = ok_same (linear_line face.metrics a.ppem ns) gs (rw is at was) in
+    let by_test = came-through (as_font (advances_tested face ns)) _ gs (rw is at was) in
+    let those = ok_same (tables.advance_line face a.ppem ns) gs by_test.rest in
     let own : ℕ → ℤ → ℕ = λ g k. kerned_step face.metrics a.ppem (advance_with s (map (λ g. g.0) l.glyphs) g) k in
-    sym those ∙ sym (advance_steps (is_bounded a.fit) face.metrics own (step_in_pixels face.metrics a.ppem) ns is)
+    sym those ∙ sym (advance_steps (is_bounded a.fit) face.metrics own (tables.advance_step face a.ppem) ns is)
 
 -- what a pen tells of its unit
 pens_tell : (us : List TextUnit) (gs : List (ℕ × ℕ)) (pen i : ℕ) → i < length (pens_at us gs pen)

@@ -3,6 +3,7 @@ use Rattle.std.proofs.Common.{◌≡◌, ◌∙◌, refl, sym, ap, ℕ, ℤ, ◌
 use Rattle.std.proofs.lemmas.Int.{ints}
 use Rattle.std.proofs.lemmas.List.{get_or-map, length-map}
 use Rattle.tt_core.specs.Chains.{came-through}
+use Rattle.tt_advances.specs.Lines as tables
 use Rattle.tt_face.specs.Faces.{Face}
 use Rattle.tt_fit.specs.Fitting.{Fitter}
 use Rattle.tt_line.specs.Laws.{ArePens, StepsLead}
@@ -13,13 +14,13 @@ use Rattle.tt_metrics.specs.Metrics.{Metrics}
 use Rattle.tt_strike.specs.declared.measuring.CharacterMeasure.{CharacterMeasure}
 use Rattle.tt_strike.specs.Job.{Job}
 use Rattle.tt_strike.specs.Measures.{Measure, character_at, characters_at, line_ink, line_step, measure_by, measured, measured_line}
-use Rattle.tt_strike.specs.Picture.{advance_with, frame_of, laid_out, line_shapes, made_line, outlines_tested, placed_by_steps, setting_in, steps_in, text_placed}
+use Rattle.tt_strike.specs.Picture.{advance_with, frame_of, laid_out, line_shapes, made_line, outlines_tested, placed_by_steps, placed_by_units, setting_in, steps_in, text_placed}
 use Rattle.tt_strike.specs.Refusals.{as_font}
 use Rattle.tt_strike_laws.specs.StepLaws.{EqualGlyphsStepAlike, MeasureTellsSteps, character_in}
 use Rattle.tt_picture.specs.Steps.{kerned_step}
 use Rattle.tt_strike.specs.Work.{is_bounded}
 use Rattle.tt_strike.proofs.Characters.{character_of, length-characters, step_at, step_told}
-use Rattle.tt_strike.proofs.Placed.{of-font, of-job, placed_by_advances, placed_by_its_steps, placed_of}
+use Rattle.tt_strike.proofs.Placed.{laid_by_units, of-font, of-job, placed_by_its_units, placed_by_its_steps, placed_of}
 
 ok_same : {X E : Type 0} (x y : X) → ◌≡◌ {A = Result X E} (Ok x) (Ok y) → x ≡ y
 ok_same x y is = cc
@@ -82,19 +83,18 @@ pens_by_steps lead face a s l bounded there was =
     let own : ℕ → ℤ → ℕ = λ g k. kerned_step face.metrics a.ppem (advance_with s (map (λ g. g.0) l.glyphs) g) k in
     let those : stepped face.metrics own gs ≡ made_line face.metrics a.ppem t gs = rw (same, pens.numbers) refl in
     let steps : stepped face.metrics (line_step face a s l) gs ≡ made_line face.metrics a.ppem t gs =
-    own_steps (is_bounded a.fit) face.metrics own (step_in_pixels face.metrics a.ppem) gs bounded ∙ those in
+    own_steps (is_bounded a.fit) face.metrics own (tables.advance_step face a.ppem) gs bounded ∙ those in
     rw steps pens
 
 pens_by_advances : StepsLead → (face : Face) (a : Job) (s : Fitter) (l : Placement) → is_bounded a.fit ≡ false
-    → placement face.metrics face.cmap a.text a.ppem a.margin ≡ Ok l → HasPens face a s l
-unfolding placement
-pens_by_advances lead face a s l other laid =
+    → placed_by_units face a ≡ Ok l → HasPens face a s l
+pens_by_advances lead face a s l other placed =
     let gs = text_glyphs face.cmap a.text in
-    let advances = linear_steps face.metrics a.ppem gs in
-    let pens = lead gs advances a.margin (rise_of face.metrics a.ppem) (depth_of face.metrics a.ppem) l laid in
+    let pens = lead gs (tables.advance_steps face a.ppem gs) a.margin (rise_of face.metrics a.ppem) (depth_of face.metrics a.ppem) l
+    (laid_by_units face a l placed).laid in
     let own : ℕ → ℤ → ℕ = λ g k. kerned_step face.metrics a.ppem (advance_with s (map (λ g. g.0) l.glyphs) g) k in
-    let steps : stepped face.metrics (line_step face a s l) gs ≡ linear_line face.metrics a.ppem gs =
-    advance_steps (is_bounded a.fit) face.metrics own (step_in_pixels face.metrics a.ppem) gs other in
+    let steps : stepped face.metrics (line_step face a s l) gs ≡ tables.advance_line face a.ppem gs =
+    advance_steps (is_bounded a.fit) face.metrics own (tables.advance_step face a.ppem) gs other in
     rw steps pens
 
 pens_by : StepsLead → (bounded : Bool) (face : Face) (a : Job) (s : Fitter) (l : Placement) → is_bounded a.fit ≡ bounded
@@ -102,8 +102,7 @@ pens_by : StepsLead → (bounded : Bool) (face : Face) (a : Job) (s : Fitter) (l
 pens_by lead true face a s l is there placed =
     pens_by_steps lead face a s l is there (rw (placed_by_its_steps face a is) at placed)
 pens_by lead false face a s l is there placed =
-    pens_by_advances lead face a s l is
-    (of-job (placement face.metrics face.cmap a.text a.ppem a.margin) l (rw (placed_by_advances face a is) at placed))
+    pens_by_advances lead face a s l is (rw (placed_by_its_units face a is) at placed)
 
 -- a character of a measure is that of the line's glyph
 pub character_is : (face : Face) (a : Job) (m : Measure) (is : IsMeasured face a m) (i : ℕ) → i < length m.characters

@@ -8,9 +8,10 @@ use Rattle.tt_fit.specs.declared.programs.Fit.TheVariants as fit
 use Rattle.tt_fit.specs.outline.Steps.{pixels_of}
 use Rattle.tt_picture.specs.Shapes.{origin_of}
 use Rattle.tt_strike.specs.Picture.{placed_by_steps}
-use Rattle.tt_strike_laws.specs.StepLaws.{BestLaysBySteps, GlyphsBeforeExtent, MovedOutlinesAgree, OthersLayByAdvances}
+use Rattle.tt_strike_laws.specs.StepLaws.{BestLaysBySteps, DefaultsLayByAdvances, GlyphsBeforeExtent, MovedOutlinesAgree, OthersLayByAdvances, OthersLayByUnits}
 use Rattle.tt_strike.specs.Work.{is_bounded}
-use Rattle.tt_strike.proofs.Placed.{placed_by_advances, placed_by_its_steps}
+use Rattle.tt_advances.proofs.Advances.{unvaried}
+use Rattle.tt_strike.proofs.Placed.{placed_by_advances, placed_by_its_steps, placed_by_its_units}
 
 others : (how : Fit) → how ≢ fit.Best → is_bounded how ≡ false
 others fit.Full other = refl
@@ -19,7 +20,14 @@ others fit.Fallback other = refl
 others fit.Best other = absurd (other refl)
 
 pub others_lay_by_advances : OthersLayByAdvances
-others_lay_by_advances face a other = placed_by_advances face a (others a.fit other)
+others_lay_by_advances face a other off = placed_by_advances face a (others a.fit other) off
+
+pub others_lay_by_units : OthersLayByUnits
+others_lay_by_units face a other = placed_by_its_units face a (others a.fit other)
+
+-- a face without an instance finds no advances
+pub defaults_lay_by_advances : DefaultsLayByAdvances
+defaults_lay_by_advances face a other none = others_lay_by_advances face a other (unvaried face.instance _ none)
 
 pub best_lays_by_steps : BestLaysBySteps
 best_lays_by_steps face a best = placed_by_its_steps face a (ap is_bounded best)

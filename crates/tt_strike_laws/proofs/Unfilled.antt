@@ -22,7 +22,7 @@ use Rattle.tt_picture.specs.Shapes.{shape_at, glyph_shape}
 use Rattle.tt_strike.specs.Picture.{setting, setting_in, frame_of, shapes_in, points_tested, edges_tested, line_shapes, drawn, pictured, pictured_by, text_placed}
 use Rattle.tt_picture.specs.Pixels.{Shape, is_black_pixel, some_black}
 use Rattle.tt_face.specs.Faces.{Face, glyphs_in}
-use Rattle.tt_face.specs.Files.{face_with}
+use Rattle.tt_face.specs.Instance.{face_at_instance}
 use Rattle.tt_strike.specs.Programs.{programs_in}
 use Rattle.tt_strike.specs.Work.{line_fitter, started}
 use Rattle.tt_picture.proofs.Alike.{image_alike}
@@ -119,11 +119,11 @@ line_by_edges laws a i face line other laid was =
 
 pub others_draw_by_edges : FillLaws → OthersDrawByEdges
 unfolding pictured pictured_by
-others_draw_by_edges laws r a file i other was =
-    let by_face = came-through (as_font (face_with file r)) _ i was in
+others_draw_by_edges laws r asked a file i other was =
+    let by_face = came-through (as_font (face_at_instance file r asked)) _ i was in
     let face = by_face.value in
     let by_line = came-through (text_placed face a) _ i by_face.rest in
     let line = by_line.value in
-    let read = of-font (face_with file r) face by_face.first in
+    let read = of-font (face_at_instance file r asked) face by_face.first in
     let P : Result Face Fault → Type 0 = λ opened. IsOkAnd opened (λ face. IsByEdges a face i) in
     subst P (sym read) (line_by_edges laws a i face line other by_line.first by_line.rest)

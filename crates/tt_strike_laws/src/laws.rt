@@ -16,7 +16,7 @@ pub fn fonts_are_whole()
     ensures picture { DrawnFontsAreWhole }
 {
     tt_face::laws::readings_give_faces();
-    tt_face::laws::rules_keep_faces();
+    tt_face::laws::instances_are_whole();
     tt_line::laws::glyphs_are_placed();
     tt_line::laws::steps_lead();
 }

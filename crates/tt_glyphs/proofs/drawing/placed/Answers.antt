@@ -16,7 +16,7 @@ returns-then-place-eq0-clause-drawn c = λ s source at by.
     let left = c.args.edged.advance_left in
     let fits : SFits w32 left = search rules in
     let same : to_z w32 (of_z w32 left) ≡ left = simp to_z-of_z refl in
-    rw (c.rowless-then-place-eq0.ensures, c.advance_of.ensures, same)
+    rw (c.rowless-then-place-eq0.ensures, c.in_ok-advance_of.ensures, same)
     (blank_drawn c.args.source.now c.args.source.now.fit s c.args.number c.args.place c.args.edged source at by small c.if-place-eq0.true)
 
 pub returns-then-place-eq0-clause-fits : goal.returns-then-place-eq0-clause-fits
@@ -65,6 +65,6 @@ returns-clause-drawn c = λ s source at by.
     let left = c.args.edged.advance_left in
     let fits : SFits w32 left = search rules in
     let same : to_z w32 (of_z w32 left) ≡ left = simp to_z-of_z refl in
-    rw (c.advance_of.ensures, same)
+    rw (c.in_ok-advance_of.ensures, same)
     (inked_drawn c.args.source.now c.args.source.now.fit s c.args.number c.args.place c.args.edged c.in_ok-bitmap.bitmap source at by small
     c.in_ok-bitmap.ensures.rows)

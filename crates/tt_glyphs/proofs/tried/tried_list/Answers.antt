@@ -1,6 +1,6 @@
 use Rattle.std.proofs.Common.{◌≡◌, ◌∙◌, ap, refl, sym, ◌<◌, []}
 use Rattle.std.proofs.lemmas.Result.{err_from_is_err_and}
-use Rattle.tt_face.specs.Faces.{Face}
+use Rattle.tt_face.specs.Faces.{Face, glyphs_in}
 use Rattle.tt_fit.specs.Fitting.{Fitter}
 use Rattle.tt_metrics.specs.Metrics.{glyphs_of}
 use Rattle.tt_picture.specs.Distinct.{distinct}
@@ -151,7 +151,12 @@ returns-clause-tried c =
     let after = rw (c.deref-3.ensures.value, numbers, charged) at c.in_ok-tried.ensures.after in
     rw (begun_is c.args.face.now a s c.in_ok-sized.ensures.tested c.in_ok-test_count.ensures.exact set.exact points) (record {
       setting = set;
-      source = record { metrics = ofs.0 ∙ sym (ap (λ (f : Face). f.metrics) face); ppem = ofs.1 ∙ sym size };
+      source = record {
+        metrics = ofs.0 ∙ sym (ap (λ (f : Face). f.metrics) face);
+        ppem = ofs.1 ∙ sym size;
+        instance = ofs.2 ∙ sym (ap (λ (f : Face). f.instance) face);
+        tables = ap (λ (f : Face). glyphs_in f) face ∙ ofs.3;
+      };
       of = face;
       fit = how;
       few = c.in_ok-test_count.ensures.few;

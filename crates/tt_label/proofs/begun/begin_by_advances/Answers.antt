@@ -1,19 +1,25 @@
-use Rattle.std.proofs.Common.{◌≡◌, ◌∙◌, ◌<◌, ◌≤◌, ℕ, ap, length, map, sym, refl, arith}
+use Rattle.std.proofs.Common.{◌≡◌, ◌∙◌, ◌<◌, ◌≤◌, ℕ, ap, length, map, sym, refl, Ok, arith}
 use Rattle.std.proofs.lemmas.List.{length-map}
 use Rattle.std.proofs.lemmas.Result.{err_from_is_err_and}
+use Rattle.tt_advances.specs.Defects.{IsAdvanceDefect}
+use Rattle.tt_advances.specs.Found.{advances_tested}
+use Rattle.tt_advances.specs.Lines.{advance_step}
 use Rattle.tt_core.specs.Limits.{text_limit}
+use Rattle.tt_core.specs.Outcomes.{draw_fault_of_font}
 use Rattle.tt_label.specs.Gathered.{gathered, units_glyphs}
 use Rattle.tt_label.specs.Label.{label_glyphs}
-use Rattle.tt_label.proofs.UnitsMade.{count_as_many, lines_as_short, rows_as_few, shapes_make_units, shapes_stop_units, stopped_textless, unbounded_step}
+use Rattle.tt_label.proofs.ByAdvances.{found_fails}
+use Rattle.tt_label.proofs.UnitsMade.{count_as_many, lines_as_short, rows_as_few, rows_found, shapes_make_units, shapes_stop_units, stopped_textless, unbounded_step, units_stop_units}
 use Rattle.tt_label.proofs.UnitGlyphs.{as_many_glyphs, at_zero, glyphs_have, its_units, text_has, zero_have, zero_numbers, zero_pens}
-use Rattle.tt_label_rows.specs.Units.{all_glyphs, text_units}
+use Rattle.tt_label_rows.specs.Units.{all_glyphs, stepped_lines, text_units}
 use Rattle.tt_line.specs.Layout.{Placement}
 use Rattle.tt_line.specs.Outcome.{placement_of}
-use Rattle.tt_line.specs.Steps.{step_in_pixels}
 use Rattle.tt_metrics.specs.Metrics.{glyphs_of}
 use Rattle.tt_strike.specs.Strikes.{SizedFace, job_by}
+use Rattle.tt_strike.proofs.Stopped.{font_tells}
+use Rattle.tt_strike.proofs.Telling.{both_sound, made_tells, units_tell}
 use Rattle.tt_strike.proofs.Textless.{cost_textless, made_textless}
-use Rattle.tt_label.proofs.begun.begin_by_advances.Goals.{After-gathered_line-gathered, In_ok-all_glyphs}
+use Rattle.tt_label.proofs.begun.begin_by_advances.Goals.{After-gathered_line-gathered, In_ok-all_glyphs, In_ok-lines, In_ok-units}
 use Rattle.tt_label.proofs.begun.begin_by_advances.Goals as goal
 
 -- the glyphs of the text
@@ -48,10 +54,48 @@ label_numbers c =
     ap (λ (l : Placement). map (λ (g : ℕ × ℕ). g.0) l.glyphs) (line_then c) ∙ zero_numbers (all_glyphs (text_units cmap c.args.text.now))
     ∙ text_has cmap c.args.text.now
 
-pub stepped_lines-requires-clause-known : goal.stepped_lines-requires-clause-known
-stepped_lines-requires-clause-known c =
+pub row_units-requires-clause-known : goal.row_units-requires-clause-known
+row_units-requires-clause-known c =
     let known = rw (← c.sized.view_is) at c.in_ok-units.ensures.known in
-    rw (c.deref.ensures.value, c.metrics-metrics.ensures) known
+    rw c.deref.ensures.value known
+
+-- the units are those of the text
+units_then : (c : In_ok-units) → its_units c.in_ok-units.units.items ≡ text_units c.sized.inside.source.face.now.cmap c.args.text.now
+units_then c = rw (← c.sized.view_is) at c.in_ok-units.ensures.exact
+
+-- their advances are found
+found_then : (c : In_ok-lines) → (advances_tested c.sized.inside.source.face.now (all_glyphs (text_units c.sized.inside.source.face.now.cmap c.args.text.now)) ≡ Ok tt)
+    × (its_units c.in_ok-lines.lines.items ≡ stepped_lines c.sized.inside.source.face.now.metrics
+    (advance_step c.sized.inside.source.face.now c.sized.inside.source.ppem) (its_units c.in_ok-units.units.items))
+found_then c =
+    let face = c.sized.inside.source.face.now in
+    let found = rows_found face c.sized.inside.source.ppem (its_units c.in_ok-units.units.items) (its_units c.in_ok-lines.lines.items)
+    (rw c.deref.ensures.value at c.in_ok-lines.ensures.exact) in
+    (rw (units_then c.In_ok-units) at found.0, found.1)
+
+pub returns-in_err-lines-clause-stops : goal.returns-in_err-lines-clause-stops
+returns-in_err-lines-clause-stops c =
+    let z : SizedFace = record { face = c.sized.inside.source.face.now; ppem = c.sized.inside.source.ppem; fit = c.sized.inside.source.fit } in
+    let a = job_by z c.args.text.now c.args.margin in
+    let all = goal.at.returns-in_err-lines-clause-stops c in
+    let e = c.in_err-lines.field-0.0 in
+    let unbounded = rw (← c.sized.view_is) at c.requires.unbounded in
+    let fails = rw (c.deref.ensures.value, units_then all.In_ok-units) at c.in_err-lines.ensures.exact in
+    let p = err_from_is_err_and c.from_residual-in_err-lines.result c.from_residual-in_err-lines.ensures.1 in
+    rw (p.1, p.2, ← c.sized.view_is) (units_stop_units z.face a e unbounded
+    (found_fails (advances_tested z.face (units_glyphs z.face a)) _ e fails))
+
+pub returns-in_err-lines-clause-defects : goal.returns-in_err-lines-clause-defects
+returns-in_err-lines-clause-defects c =
+    let z : SizedFace = record { face = c.sized.inside.source.face.now; ppem = c.sized.inside.source.ppem; fit = c.sized.inside.source.fit } in
+    let a = job_by z c.args.text.now c.args.margin in
+    let all = goal.at.returns-in_err-lines-clause-defects c in
+    let e = c.in_err-lines.field-0.0 in
+    let gs = label_glyphs z.face.cmap c.args.text.now in
+    let unbounded = rw (← c.sized.view_is) at c.requires.unbounded in
+    let told = rw (c.deref.ensures.value, units_then all.In_ok-units, text_has z.face.cmap c.args.text.now) at c.in_err-lines.ensures.defects in
+    let p = err_from_is_err_and c.from_residual-in_err-lines.result c.from_residual-in_err-lines.ensures.1 in
+    rw (p.1, p.2, ← c.sized.view_is) (units_tell z.face a gs (draw_fault_of_font e) unbounded (font_tells (IsAdvanceDefect z.face gs) e told))
 
 pub tested_glyphs-requires-clause-unbounded : goal.tested_glyphs-requires-clause-unbounded
 tested_glyphs-requires-clause-unbounded c = rw c.unstepped_units.ensures.same c.requires.unbounded
@@ -78,7 +122,8 @@ returns-in_err-glyphs-clause-stops c =
     let all = goal.at.returns-in_err-glyphs-clause-stops c in
     let line : placement_of c.gathered_line-gathered.result.line ≡ gathered (units_glyphs z.face a) = rw (← c.sized.view_is) (line_then all.After-gathered_line-gathered) in
     let p = err_from_is_err_and c.from_residual-in_err-glyphs.result c.from_residual-in_err-glyphs.ensures.1 in
-    rw (p.1, p.2) (shapes_stop_units z.face a c.in_err-glyphs.field-0.0 c.requires.unbounded
+    let found : advances_tested z.face (units_glyphs z.face a) ≡ Ok tt = rw (← c.sized.view_is) (found_then all.In_ok-lines).0 in
+    rw (p.1, p.2) (shapes_stop_units z.face a c.in_err-glyphs.field-0.0 c.requires.unbounded found
     (stopped_textless z c.args.text.now c.args.margin c.gathered_line-gathered.result.margin (units_glyphs z.face a)
     (placement_of c.gathered_line-gathered.result.line) c.in_err-glyphs.field-0.0 c.gathered_line-gathered.ensures.margin line (rw c.unstepped_units.ensures.same at c.in_err-glyphs.ensures.stops)))
 
@@ -86,14 +131,18 @@ pub returns-in_err-glyphs-clause-defects : goal.returns-in_err-glyphs-clause-def
 returns-in_err-glyphs-clause-defects c =
     let all = goal.at.returns-in_err-glyphs-clause-defects c in
     let met = rw (c.unstepped_units.ensures.same, ← c.sized.view_is, label_numbers all.After-gathered_line-gathered) at c.in_err-glyphs.ensures.defects in
+    let z : SizedFace = record { face = c.sized.inside.source.face.now; ppem = c.sized.inside.source.ppem; fit = c.sized.inside.source.fit } in
     let p = err_from_is_err_and c.from_residual-in_err-glyphs.result c.from_residual-in_err-glyphs.ensures.1 in
-    rw (p.1, p.2, ← c.sized.view_is) met
+    rw (p.1, p.2, ← c.sized.view_is) (made_tells z.face (job_by z c.args.text.now c.args.margin) (label_glyphs z.face.cmap c.args.text.now)
+    c.in_err-glyphs.field-0.0 met)
 
 pub returns-clause-defects : goal.returns-clause-defects
 returns-clause-defects c =
     let all = goal.at.returns-clause-defects c in
     let none = rw (c.unstepped_units.ensures.same, ← c.sized.view_is, label_numbers all.After-gathered_line-gathered) at c.in_ok-glyphs.ensures.defects in
-    rw (← c.sized.view_is) none
+    let z : SizedFace = record { face = c.sized.inside.source.face.now; ppem = c.sized.inside.source.ppem; fit = c.sized.inside.source.fit } in
+    let found = rw (c.deref.ensures.value, units_then all.In_ok-units, text_has z.face.cmap c.args.text.now) at c.in_ok-lines.ensures.defects in
+    rw (← c.sized.view_is) (both_sound z.face (job_by z c.args.text.now c.args.margin) (label_glyphs z.face.cmap c.args.text.now) none found)
 
 pub returns-clause-cache : goal.returns-clause-cache
 returns-clause-cache c = rw c.unstepped_units.ensures.same at c.tested_glyphs.ensures.cache
@@ -111,13 +160,14 @@ returns-clause-begun c =
     let textless = rw (c.unstepped_units.ensures.same, ← c.sized.view_is, line, margin) at c.in_ok-glyphs.ensures.made in
     let made = made_textless z c.args.text.now c.args.margin (gathered gs) textless in
     let cost = rw (c.unstepped_units.ensures.same, ← c.sized.view_is, line, margin) at c.in_ok-glyphs.ensures.cost in
-    let step = step_in_pixels z.face.metrics z.ppem in
-    let steps = rw (c.metrics-metrics.ensures, c.deref.ensures.value) at c.in_ok-lines.ensures in
+    let step = advance_step z.face z.ppem in
+    let found = found_then all.In_ok-lines in
+    let steps = found.1 in
     rw (← c.sized.view_is) (
       made.setting,
       record {
         tested = rw (← c.sized.view_is) at c.requires.tested;
-        made = shapes_make_units z.face a c.in_ok-glyphs.glyphs.made.items unbounded made;
+        made = shapes_make_units z.face a c.in_ok-glyphs.glyphs.made.items unbounded found.0 made;
         finish = record {
           opened = made.opened;
           line = line;

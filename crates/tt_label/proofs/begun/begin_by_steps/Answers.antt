@@ -21,6 +21,7 @@ use Rattle.tt_strike.specs.Picture.{advance_with}
 use Rattle.tt_strike.specs.Strikes.{SizedFace, job_by}
 use Rattle.tt_strike.specs.Work.{line_fitter}
 use Rattle.tt_strike.proofs.Stepped.{outlines_pass}
+use Rattle.tt_strike.proofs.Telling.{made_sound, made_tells}
 use Rattle.tt_label.proofs.begun.begin_by_steps.Goals.{In_ok-fitted, In_ok-glyphs, In_ok-units}
 use Rattle.tt_label.proofs.begun.begin_by_steps.Goals as goal
 
@@ -109,13 +110,17 @@ returns-in_err-fitted-clause-defects c =
     let all = goal.at.returns-in_err-fitted-clause-defects c in
     let met = rw (c.unstepped_units.ensures.same, ← c.sized.view_is, c.deref-2.ensures.value, label_numbers all.In_ok-glyphs) at c.in_err-fitted.ensures.defects in
     let p = err_from_is_err_and c.from_residual-in_err-fitted.result c.from_residual-in_err-fitted.ensures.1 in
-    rw (p.1, p.2, ← c.sized.view_is) met
+    let z : SizedFace = record { face = c.sized.inside.source.face.now; ppem = c.sized.inside.source.ppem; fit = c.sized.inside.source.fit } in
+    rw (p.1, p.2, ← c.sized.view_is) (made_tells z.face (job_by z c.args.text.now c.args.margin) (label_glyphs z.face.cmap c.args.text.now)
+    c.in_err-fitted.field-0.0 met)
 
 pub returns-clause-defects : goal.returns-clause-defects
 returns-clause-defects c =
     let all = goal.at.returns-clause-defects c in
     let none = rw (c.unstepped_units.ensures.same, ← c.sized.view_is, c.deref-2.ensures.value, label_numbers all.In_ok-glyphs) at c.in_ok-fitted.ensures.defects in
-    rw (← c.sized.view_is) none
+    let z : SizedFace = record { face = c.sized.inside.source.face.now; ppem = c.sized.inside.source.ppem; fit = c.sized.inside.source.fit } in
+    let bounded = rw (← c.sized.view_is) at c.requires.bounded in
+    rw (← c.sized.view_is) (made_sound z.face (job_by z c.args.text.now c.args.margin) (label_glyphs z.face.cmap c.args.text.now) bounded none)
 
 pub gathered_line-requires-clause-few : goal.gathered_line-requires-clause-few
 gathered_line-requires-clause-few c = few_then (goal.at.gathered_line-requires-clause-few c).In_ok-glyphs

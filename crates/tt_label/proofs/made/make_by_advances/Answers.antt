@@ -2,12 +2,13 @@ use Rattle.std.proofs.Common.{◌≡◌, ◌∙◌, ℕ, List, Vec, Global, ap, 
 use Rattle.std.proofs.lemmas.Result.{err_from_is_err_and}
 use Rattle.tt_label.specs.Label.{joint, label_glyphs}
 use Rattle.tt_label.specs.Views.{placements_of}
-use Rattle.tt_label.proofs.ByAdvances.{glyphs_by_advances, layout_tells_no_defect, made_as_joint, textless_tell}
+use Rattle.tt_label.proofs.ByAdvances.{glyphs_by_advances, made_as_joint, textless_tell}
 use Rattle.tt_label.proofs.Placed.{lines_tell}
 use Rattle.tt_line.specs.Layout.{Placement}
 use Rattle.tt_line.specs.Outcome.{placement_of}
 use Rattle.tt_strike.specs.declared.laid.Laid.{Laid}
 use Rattle.tt_strike.specs.Strikes.{job_by}
+use Rattle.tt_strike.proofs.Telling.{both_sound, made_tells, units_tell}
 use Rattle.tt_strike.proofs.Textless.{cost_textless}
 use Rattle.tt_label.proofs.made.make_by_advances.Goals.{After-joint_of}
 use Rattle.tt_label.proofs.made.make_by_advances.Goals as goal
@@ -28,9 +29,9 @@ returns-in_err-lines-clause-stops c =
 pub returns-in_err-lines-clause-defects : goal.returns-in_err-lines-clause-defects
 returns-in_err-lines-clause-defects c =
     let p = err_from_is_err_and c.from_residual.result c.from_residual.ensures.1 in
-    rw (p.1, p.2) (layout_tells_no_defect (λ (v : Vec Laid Global). placements_of v.items) _ c.args.sized.now.face
-    (job_by c.args.sized.now c.args.text.now c.args.margin) c.args.align c.in_err-lines.field-0.0 c.requires.tested c.requires.unbounded
-    c.in_err-lines.ensures.exact)
+    let z = c.args.sized.now in
+    rw (p.1, p.2) (units_tell z.face (job_by z c.args.text.now c.args.margin) (label_glyphs z.face.cmap c.args.text.now) c.in_err-lines.field-0.0
+    c.requires.unbounded c.in_err-lines.ensures.defects)
 
 pub returns-in_err-glyphs-clause-stops : goal.returns-in_err-glyphs-clause-stops
 returns-in_err-glyphs-clause-stops c =
@@ -52,7 +53,9 @@ pub returns-in_err-glyphs-clause-defects : goal.returns-in_err-glyphs-clause-def
 returns-in_err-glyphs-clause-defects c =
     let all = goal.at.returns-in_err-glyphs-clause-defects c in
     let p = err_from_is_err_and c.from_residual-in_err-glyphs.result c.from_residual-in_err-glyphs.ensures.1 in
-    rw (p.1, p.2, ← numbers_then all.After-joint_of) (rw c.lay_label.ensures.same at c.in_err-glyphs.ensures.defects)
+    let z = c.args.sized.now in
+    let told = rw (c.lay_label.ensures.same, numbers_then all.After-joint_of) at c.in_err-glyphs.ensures.defects in
+    rw (p.1, p.2) (made_tells z.face (job_by z c.args.text.now c.args.margin) (label_glyphs z.face.cmap c.args.text.now) c.in_err-glyphs.field-0.0 told)
 
 pub returns-clause-made : goal.returns-clause-made
 returns-clause-made c =
@@ -70,7 +73,9 @@ returns-clause-made c =
 pub returns-clause-defects : goal.returns-clause-defects
 returns-clause-defects c =
     let all = goal.at.returns-clause-defects c in
-    rw (← numbers_then all.After-joint_of) (rw c.lay_label.ensures.same at c.in_ok-glyphs.ensures.defects)
+    let z = c.args.sized.now in
+    let made = rw (c.lay_label.ensures.same, numbers_then all.After-joint_of) at c.in_ok-glyphs.ensures.defects in
+    both_sound z.face (job_by z c.args.text.now c.args.margin) (label_glyphs z.face.cmap c.args.text.now) made c.in_ok-lines.ensures.defects
 
 pub tested_glyphs-requires-clause-cache : goal.tested_glyphs-requires-clause-cache
 tested_glyphs-requires-clause-cache c = rw c.lay_label.ensures.same c.requires.cache

@@ -22,6 +22,7 @@ use Rattle.tt_strike.specs.Picture.{advance_with}
 use Rattle.tt_strike.specs.Strikes.{job_by}
 use Rattle.tt_strike.proofs.Stepped.{outlines_pass}
 use Rattle.tt_strike.proofs.Stopped.{no_defect_told}
+use Rattle.tt_strike.proofs.Telling.{made_sound, made_tells}
 use Rattle.tt_strike.proofs.Textless.{cost_textless}
 use Rattle.tt_label.proofs.made.make_by_steps.Goals.{After-joint_of, In_ok-label, In_ok-lines}
 use Rattle.tt_label.proofs.made.make_by_steps.Goals as goal
@@ -109,7 +110,9 @@ returns-in_err-label-clause-stops c =
 pub returns-in_err-label-clause-defects : goal.returns-in_err-label-clause-defects
 returns-in_err-label-clause-defects c =
     let p = err_from_is_err_and c.from_residual.result c.from_residual.ensures.1 in
-    rw (p.1, p.2) c.in_err-label.ensures.defects
+    let z = c.args.sized.now in
+    rw (p.1, p.2) (made_tells z.face (job_by z c.args.text.now c.args.margin) (label_glyphs z.face.cmap c.args.text.now) c.in_err-label.field-0.0
+    c.in_err-label.ensures.defects)
 
 pub returns-in_err-laid-clause-stops : goal.returns-in_err-laid-clause-stops
 returns-in_err-laid-clause-stops c =
@@ -157,7 +160,9 @@ returns-clause-made c =
     }
 
 pub returns-clause-defects : goal.returns-clause-defects
-returns-clause-defects c = c.in_ok-label.ensures.defects
+returns-clause-defects c =
+    let z = c.args.sized.now in
+    made_sound z.face (job_by z c.args.text.now c.args.margin) (label_glyphs z.face.cmap c.args.text.now) c.requires.bounded c.in_ok-label.ensures.defects
 
 pub returns-clause-cache : goal.returns-clause-cache
 returns-clause-cache c = rw c.fitted_label.ensures.same at c.drawn_units.ensures.cache

@@ -4,7 +4,7 @@ use Rattle.tt_strike_laws.proofs.laws.fonts_are_whole.Goals as goal
 
 pub returns-clause-picture : goal.returns-clause-picture
 returns-clause-picture c =
-    drawn-whole c.rules_keep_faces.ensures.whole c.glyphs_are_placed.ensures c.steps_lead.ensures
+    drawn-whole c.instances_are_whole.ensures c.glyphs_are_placed.ensures c.steps_lead.ensures
 
 pub returns-clause-tables : goal.returns-clause-tables
 returns-clause-tables c = face-whole

@@ -1,6 +1,7 @@
 use Rattle.std.proofs.Common.{◌≡◌, ◌∙◌, sym, ap, get_or, All, ℕ, ℤ, ◌+◌, ◌<◌, List, length, map, slice_index, slice_index_or, pos, SFits, w32, w64, of_z, to_z, refl, Option, arith, rules}
 use Rattle.std.proofs.lemmas.Int.{ints, to_z-of_z}
 use Rattle.std.proofs.lemmas.List.{get_or-map, length-map}
+use Rattle.tt_advances.specs.Found.{units_of}
 use Rattle.tt_bitmap.specs.declared.ink.LeastBox.{LeastBox}
 use Rattle.tt_picture.specs.Glyphs.{Glyph, numbers_of}
 use Rattle.tt_strike.specs.Measures.{made_step}
@@ -30,7 +31,7 @@ returns c = λ step inked steps same.
     let at = c.place_of-at.ensures in
     let narrow : SFits w32 c.args.kerning = c.ranges.kerning in
     let same_kerning : to_z w32 (of_z w32 c.args.kerning) ≡ c.args.kerning = simp to_z-of_z refl in
-    let own = made_step z.face.metrics z.ppem z.fit in
+    let own = made_step z.face z.ppem z.fit in
     let told : c.step_of.result ≡ own c.index.result.now c.args.kerning = rw same_kerning at c.step_of.ensures in
     let stepped : c.step_of.result ≡ step c.args.placed.0 c.args.kerning =
     told ∙ step_found own step c.args.kerning gs c.place_of-at.result c.args.placed.0 c.index.result.now steps at.within at.number c.index.ensures in
@@ -47,6 +48,24 @@ step_of-requires-clause-known c =
     let here : c.index.result.now.number ≡ c.args.placed.0 = ap (λ (t : Glyph). t.number) c.index.ensures
     ∙ sym (get_or-map (λ (t : Glyph). t.number) gs c.place_of-at.result c.index.result.now 0 at.within) ∙ at.number in
     rw here c.requires.known
+
+-- the advance at a place, of those of some numbers
+units_found : (units : List ℕ) (f : ℕ → ℕ) (gs : List Glyph) (i n : ℕ) → units ≡ map f (numbers_of gs) → i < length gs
+    → slice_index (numbers_of gs) i ≡ n → (i < length units) × (slice_index units i ≡ f n)
+units_found units f gs i n are below is =
+    let count = length-map gs (λ (g : Glyph). g.number) in
+    let many = ap length are ∙ length-map (numbers_of gs) f in
+    let here : i < length (numbers_of gs) = omega (arith, count, below) in
+    (omega (arith, many, here), rw are (get_or-map f (numbers_of gs) i 0 0 here ∙ ap f is))
+
+pub step_of-requires-clause-at : goal.step_of-requires-clause-at
+step_of-requires-clause-at c = λ other finds.
+    let gs = c.args.inked.now.glyphs.made.items in
+    let at = c.place_of-at.ensures in
+    let here : c.index.result.now.number ≡ c.args.placed.0 = ap (λ (t : Glyph). t.number) c.index.ensures
+    ∙ sym (get_or-map (λ (t : Glyph). t.number) gs c.place_of-at.result c.index.result.now 0 at.within) ∙ at.number in
+    rw here (units_found c.args.units.now (units_of c.args.self.now.face) gs c.place_of-at.result c.args.placed.0
+    (c.requires.units other finds) at.within at.number)
 
 pub index-requires-2 : goal.index-requires-2
 index-requires-2 c =

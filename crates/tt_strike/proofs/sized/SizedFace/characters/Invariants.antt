@@ -8,6 +8,6 @@ use Rattle.tt_strike.proofs.sized.SizedFace.characters.Given as goal
 -- the characters so far
 abbrev pub invariant-loop-i : goal.invariant-loop-i
 invariant-loop-i l = (step : ℕ → ℤ → ℕ) (ink : ℕ → Option LeastBox)
-    → All (λ g. (k : ℤ) → made_step l.self.face.metrics l.self.ppem l.self.fit g k ≡ step g.number k) l.inked.glyphs.made.items
+    → All (λ g. (k : ℤ) → made_step l.self.face l.self.ppem l.self.fit g k ≡ step g.number k) l.inked.glyphs.made.items
     → l.inked.inks.items ≡ map ink (numbers_of l.inked.glyphs.made.items)
     → l.measured.items ≡ take l.i (characters_at l.self.face.metrics step l.frame ink l.line)

@@ -4,10 +4,8 @@ use Rattle.tt_core.specs.declared.draw_fault.DrawFault.{DrawFault}
 use Rattle.tt_line.specs.declared.measured.LineSize.{LineSize}
 use Rattle.tt_line.specs.Layout.{text_glyphs}
 use Rattle.tt_strike.specs.declared.layouts.Layout.{Layout}
-use Rattle.tt_strike.specs.Defects.{IsLineDefect}
-use Rattle.tt_strike.specs.Layouts.{layout_outcome, size_outcome}
+use Rattle.tt_strike.specs.Layouts.{HasLayoutDefect, layout_outcome, size_outcome}
 use Rattle.tt_strike.specs.Strikes.{job_by}
-use Rattle.tt_strike.specs.Work.{is_bounded}
 use Rattle.tt_strike.proofs.Stopped.{stops}
 use Rattle.tt_strike.proofs.TextSteps.{sound_on, told_on}
 use Rattle.tt_strike.proofs.sized.SizedFace.layout.Goals as goal
@@ -30,9 +28,9 @@ pub returns-in_err-size-clause-defects : goal.returns-in_err-size-clause-defects
 returns-in_err-size-clause-defects c =
     let p = err_from_is_err_and c.from_residual.result c.from_residual.ensures.1 in
     let z = c.args.self.now in
-    let IsOne = IsLineDefect z.face (job_by z c.args.text.now c.args.margin) (text_glyphs z.face.cmap c.args.text.now) in
+    let IsOne = HasLayoutDefect z.face (job_by z c.args.text.now c.args.margin) (text_glyphs z.face.cmap c.args.text.now) in
     let r : Result LineSize DrawFault = Err c.in_err-size.field-0.0 in
-    told_on (is_bounded z.fit) IsOne r c.from_residual.result c.in_err-size.field-0.0 refl (rw (p.1, p.2) refl)
+    told_on IsOne r c.from_residual.result c.in_err-size.field-0.0 refl (rw (p.1, p.2) refl)
     c.in_err-size.ensures.defects
 
 pub returns-clause-exact : goal.returns-clause-exact
@@ -43,7 +41,7 @@ returns-clause-exact c =
 pub returns-clause-defects : goal.returns-clause-defects
 returns-clause-defects c =
     let z = c.args.self.now in
-    let IsOne = IsLineDefect z.face (job_by z c.args.text.now c.args.margin) (text_glyphs z.face.cmap c.args.text.now) in
+    let IsOne = HasLayoutDefect z.face (job_by z c.args.text.now c.args.margin) (text_glyphs z.face.cmap c.args.text.now) in
     let r : Result LineSize DrawFault = Ok c.in_ok-size.size in
     let q : Result Layout DrawFault = Ok c.layout_by.result in
-    sound_on (is_bounded z.fit) IsOne r q c.in_ok-size.size c.layout_by.result refl refl c.in_ok-size.ensures.defects
+    sound_on IsOne r q c.in_ok-size.size c.layout_by.result refl refl c.in_ok-size.ensures.defects

@@ -2,6 +2,7 @@ use Rattle.std.proofs.lemmas.Result.{err_from_is_err_and}
 use Rattle.tt_line.specs.Layout.{text_glyphs}
 use Rattle.tt_strike.specs.Strikes.{job_by}
 use Rattle.tt_strike.proofs.Stepped.{outlines_pass}
+use Rattle.tt_strike.proofs.Telling.{made_sound, made_tells}
 use Rattle.tt_strike.proofs.TextSteps.{steps_by_outlines, units_stop_steps}
 use Rattle.tt_strike.proofs.sized.SizedFace.made_steps.Goals as goal
 
@@ -14,7 +15,9 @@ returns-in_err-fitted-clause-exact c =
 pub returns-in_err-fitted-clause-defects : goal.returns-in_err-fitted-clause-defects
 returns-in_err-fitted-clause-defects c =
     let p = err_from_is_err_and c.from_residual.result c.from_residual.ensures.1 in
-    rw (p.1, p.2) c.in_err-fitted.ensures.defects
+    let z = c.args.self.now in
+    rw (p.1, p.2) (made_tells z.face (job_by z c.args.text.now 0) (text_glyphs z.face.cmap c.args.text.now) c.in_err-fitted.field-0.0
+    c.in_err-fitted.ensures.defects)
 
 pub returns-clause-exact : goal.returns-clause-exact
 returns-clause-exact c =
@@ -25,4 +28,6 @@ returns-clause-exact c =
     (outlines_pass o.0 a (text_glyphs z.face.cmap c.args.text.now) o.1.outlines.0 o.1.points o.1.outlines.1) o.2
 
 pub returns-clause-defects : goal.returns-clause-defects
-returns-clause-defects c = c.in_ok-fitted.ensures.defects
+returns-clause-defects c =
+    let z = c.args.self.now in
+    made_sound z.face (job_by z c.args.text.now 0) (text_glyphs z.face.cmap c.args.text.now) c.requires.bounded c.in_ok-fitted.ensures.defects

@@ -15,6 +15,7 @@ use Rattle.tt_strike.proofs.Fitted.{points_tell_refusal, units_tell_refusal}
 use Rattle.tt_strike.proofs.Placed.{placed_of}
 use Rattle.tt_strike.proofs.Stepped.{extent_by_steps_tells, extent_stops_text, laid_out_by_steps, outlines_pass, units_stop_text}
 use Rattle.tt_strike.proofs.Stopped.{no_defect_told, shapes_stop, tested_at}
+use Rattle.tt_strike.proofs.Telling.{made_sound, made_tells}
 use Rattle.tt_strike.proofs.Textless.{cost_textless, made_textless, shapes_textless}
 use Rattle.tt_strike.proofs.sized.SizedFace.make_by_steps.Goals.{In_ok-fitted, In_ok-line, In_ok-test_text}
 use Rattle.tt_strike.proofs.sized.SizedFace.make_by_steps.Goals as goal
@@ -68,7 +69,9 @@ returns-in_err-fitted-clause-stops c =
 pub returns-in_err-fitted-clause-defects : goal.returns-in_err-fitted-clause-defects
 returns-in_err-fitted-clause-defects c =
     let p = err_from_is_err_and c.from_residual-in_err-fitted.result c.from_residual-in_err-fitted.ensures.1 in
-    rw (p.1, p.2) c.in_err-fitted.ensures.defects
+    let z = c.args.self.now in
+    rw (p.1, p.2) (made_tells z.face (job_by z c.args.text.now c.args.margin) (text_glyphs z.face.cmap c.args.text.now) c.in_err-fitted.field-0.0
+    c.in_err-fitted.ensures.defects)
 
 pub returns-in_err-fitted-clause-job : goal.returns-in_err-fitted-clause-job
 returns-in_err-fitted-clause-job c =
@@ -195,7 +198,10 @@ returns-clause-made c =
     }
 
 pub returns-clause-defects : goal.returns-clause-defects
-returns-clause-defects c = c.in_ok-fitted.ensures.defects
+returns-clause-defects c =
+    let z = c.args.self.now in
+    made_sound z.face (job_by z c.args.text.now c.args.margin) (text_glyphs z.face.cmap c.args.text.now) c.requires.bounded
+    c.in_ok-fitted.ensures.defects
 
 pub returns-clause-cache : goal.returns-clause-cache
 returns-clause-cache c = rw c.fitted_text.ensures.same at c.drawn_units.ensures.cache

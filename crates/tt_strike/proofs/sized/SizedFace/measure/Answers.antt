@@ -7,7 +7,7 @@ use Rattle.tt_strike.specs.Costs.{cost_by}
 use Rattle.tt_strike.specs.Measures.{line_ink, line_step, measured}
 use Rattle.tt_strike.specs.Report.{report_by}
 use Rattle.tt_strike.specs.Strikes.{job_by}
-use Rattle.tt_strike.proofs.Made.{inks_as_made, measured_as_made, reported_as_made, steps_as_made}
+use Rattle.tt_strike.proofs.Made.{known_made, inks_as_made, measured_as_made, reported_as_made, steps_as_made}
 use Rattle.tt_strike.proofs.Placed.{placed_of}
 use Rattle.tt_strike.proofs.Stopped.{measure_stops}
 use Rattle.tt_strike.proofs.sized.SizedFace.measure.Goals as goal
@@ -20,6 +20,11 @@ returns-in_err-made-clause-exact c =
 
 pub measure_by-requires-clause-known : goal.measure_by-requires-clause-known
 measure_by-requires-clause-known c = rw c.make_line.ensures.same c.in_ok-made.ensures.made.known
+
+pub measure_by-requires-clause-made : goal.measure_by-requires-clause-made
+measure_by-requires-clause-made c =
+    rw c.make_line.ensures.same (known_made c.args.self.now.face c.in_ok-made.made.laid.line.glyphs.items
+    (numbers_of c.in_ok-made.made.glyphs.made.items) c.in_ok-made.ensures.made.known c.in_ok-made.ensures.made.made.numbers)
 
 pub measure_by-requires-clause-among : goal.measure_by-requires-clause-among
 measure_by-requires-clause-among c =

@@ -12,7 +12,7 @@ use Rattle.tt_strike.specs.Picture.{laid_out}
 use Rattle.tt_strike.specs.Report.{report_by}
 use Rattle.tt_strike.specs.Strikes.{job_by}
 use Rattle.tt_strike.proofs.Enlarged.{larger_made, numbers_kept, placed_as_laid}
-use Rattle.tt_strike.proofs.Made.{inks_as_made, measured_as_made, reported_as_made, steps_as_made}
+use Rattle.tt_strike.proofs.Made.{known_made, inks_as_made, measured_as_made, reported_as_made, steps_as_made}
 use Rattle.tt_strike.proofs.Placed.{placed_of}
 use Rattle.tt_strike.proofs.Stopped.{grown_measure_stops}
 use Rattle.tt_strike.proofs.sized.SizedFace.measure_grown.Goals as goal
@@ -30,6 +30,16 @@ measure_by-requires-clause-known c =
     let its = ok_and (laid_out face a) (λ l. IsEnlarged face a l (placement_of c.in_ok-enlarged.enlarged.laid.line)
     c.in_ok-enlarged.enlarged.inked.glyphs.made.items) c.in_ok-enlarged.ensures.enlarged in
     rw c.enlarge.ensures.same its.2.known
+
+pub measure_by-requires-clause-made : goal.measure_by-requires-clause-made
+measure_by-requires-clause-made c =
+    let face = c.args.self.now.face in
+    let a = job_by c.args.self.now c.args.text.now c.args.margin in
+    let its = ok_and (laid_out face a) (λ l. IsEnlarged face a l (placement_of c.in_ok-enlarged.enlarged.laid.line)
+    c.in_ok-enlarged.enlarged.inked.glyphs.made.items) c.in_ok-enlarged.ensures.enlarged in
+    rw c.enlarge.ensures.same (known_made face c.in_ok-enlarged.enlarged.laid.line.glyphs.items
+    (numbers_of c.in_ok-enlarged.enlarged.inked.glyphs.made.items) its.2.known
+    (its.2.made.numbers ∙ ap distinct (sym (numbers_kept its.2))))
 
 pub measure_by-requires-clause-among : goal.measure_by-requires-clause-among
 measure_by-requires-clause-among c =

@@ -14,7 +14,7 @@ use Rattle.tt_picture.proofs.Among.{all_among}
 use Rattle.tt_picture.proofs.Cached.{after_alike}
 use Rattle.tt_picture.proofs.Listing.{distinct_differ}
 use Rattle.tt_picture.proofs.LineShapes.{shapes_of_drawn}
-use Rattle.tt_strike.specs.Defects.{IsLineDefect}
+use Rattle.tt_strike.specs.Defects.{IsMadeDefect}
 use Rattle.tt_strike.specs.Strikes.{IsCacheOf, SizedFace, job_with}
 use Rattle.tt_strike.specs.Work.{line_fitter, started}
 use Rattle.tt_strike.proofs.Caches.{of_face, of_fitter}
@@ -40,7 +40,7 @@ returns-in_err-fitter-clause-defects c =
     let a = job_with z c.args.laid.now.margin in
     let gs = map (λ g. g.0) c.args.laid.now.line.glyphs.items in
     let p = err_from_is_err_and c.from_residual-in_err-fitter.result c.from_residual-in_err-fitter.ensures.1 in
-    rw (p.1, p.2, ← c.self.view_is) (font_tells (IsLineDefect face a gs) c.in_err-fitter.field-0.0
+    rw (p.1, p.2, ← c.self.view_is) (font_tells (IsMadeDefect face a gs) c.in_err-fitter.field-0.0
     (setting_tells face a gs c.in_err-fitter.field-0.0 c.in_err-fitter.ensures.defects))
 
 pub returns-in_err-fitter-clause-job : goal.returns-in_err-fitter-clause-job
@@ -96,7 +96,7 @@ returns-in_err-made-clause-defects c =
     let places = c.args.laid.now.line.glyphs.items in
     let p = err_from_is_err_and c.from_residual-in_err-made.result c.from_residual-in_err-made.ensures.1 in
     let fails = fails_then (goal.at.returns-in_err-made-clause-defects c).After-made_glyphs c.in_err-made.field-0.0 c.in_err-made.ensures.fault in
-    rw (p.1, p.2, ← c.self.view_is) (font_tells (IsLineDefect face a (map (λ g. g.0) places)) c.in_err-made.field-0.0
+    rw (p.1, p.2, ← c.self.view_is) (font_tells (IsMadeDefect face a (map (λ g. g.0) places)) c.in_err-made.field-0.0
     (glyph_tells {X = List Shape} (λ ss. ss) face a s places c.in_ok-fitter.ensures.exact
     c.in_err-made.field-0.0 fails))
 

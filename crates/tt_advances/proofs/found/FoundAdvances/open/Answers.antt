@@ -1,0 +1,13 @@
+use Rattle.std.proofs.Common.{◌≡◌, ◌∙◌, ap, ℕ, List, length, replicate}
+use Rattle.std.proofs.lemmas.List.{length-replicate}
+use Rattle.tt_advances.specs.Views.{AreFound, Finder}
+use Rattle.tt_advances.proofs.Known.{none_known}
+use Rattle.tt_advances.proofs.found.FoundAdvances.open.Goals as goal
+
+pub invariant_of-result : goal.invariant_of-result
+invariant_of-result c =
+    let f : Finder = record { face = c.args.face.now; tables = c.in_ok-glyf.glyf } in
+    let zeros : c.in_ok-known.known.items ≡ replicate c.glyphs.result 0 = c.in_ok-known.ensures.items_if_clones_equal (λ x is. is) in
+    let many : length c.in_ok-known.known.items ≡ c.in_ok-glyf.glyf.glyphs =
+    rw (zeros, length-replicate c.glyphs.result 0, c.glyphs.ensures, c.in_ok-glyf.ensures.glyphs) refl in
+    (c.in_ok-glyf.ensures.glyphs, many, rw zeros (none_known f c.glyphs.result))

@@ -1,0 +1,10 @@
+use Rattle.tt_strike.proofs.sized.SizedFace.table_steps.Goals as goal
+
+pub returns-clause-exact : goal.returns-clause-exact
+returns-clause-exact c = rw (← c.self.view_is) (rw c.self.invariant.1 at c.advance_steps.ensures.exact)
+
+pub returns-clause-glyphs : goal.returns-clause-glyphs
+returns-clause-glyphs c = rw (← c.self.view_is) (rw c.self.invariant.1 at c.advance_steps.ensures.glyphs)
+
+pub returns-clause-known : goal.returns-clause-known
+returns-clause-known c = rw (← c.self.view_is) (rw c.self.invariant.1 at c.advance_steps.ensures.known)
