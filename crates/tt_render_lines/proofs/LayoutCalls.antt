@@ -11,7 +11,7 @@ use Rattle.tt_core.specs.Faults.{Fault}
 use Rattle.tt_render_texts.specs.declared.refusal.Refusal.{Refusal}
 use Rattle.tt_render_texts.specs.declared.refusal.Refusal.TheVariants as reason
 use Rattle.tt_render_settings.specs.declared.setting.Setting.{Setting}
-use Rattle.tt_render_lines.specs.LayoutTexts.{IsLaidDefect, IsLayoutDefect, IsReadDefect, laid_text, layout_answer, layout_text, line_text, pen_text, size_text}
+use Rattle.tt_render_lines.specs.LayoutTexts.{IsLaidDefect, IsLayoutDefect, laid_text, layout_answer, layout_text, line_text, pen_text, size_text}
 use Rattle.tt_render_settings.specs.MeasureText.{face_text, font_text}
 use Rattle.tt_render_settings.specs.Settings.{IsOpeningDefect, face_asked, job_by}
 use Rattle.tt_render_settings.specs.TextsOutcome.{IsOfText, TextTellsDefects, refusal_font_fault, told}
@@ -19,7 +19,7 @@ use Rattle.tt_render_texts.specs.Views.{before_lines, refusal_of_draw}
 use Rattle.tt_strike.specs.declared.layouts.Layout.{Layout}
 use Rattle.tt_strike.specs.declared.layouts.Pen.{Pen}
 use Rattle.tt_strike.specs.Job.{Job}
-use Rattle.tt_strike.specs.Layouts.{TellsMadeDefects, pens_outcome}
+use Rattle.tt_strike.specs.Layouts.{pens_outcome}
 use Rattle.tt_strike.specs.Refusals as drawing
 use Rattle.tt_strike.specs.Strikes.{Strike, job_of}
 
@@ -58,21 +58,6 @@ unfolding layout_answer
 lines_stop a s text (draw.Font f) is = rw is refl
 lines_stop a s text (draw.Job j) is = rw is refl
 lines_stop a s text draw.Memory is = tt
-
--- what is told of defects where pens are refused, and where they are made
-pub made_tell : (V : Type 0) (b : Bool) (P : Fault → Type 0) (d : DrawFault) → TellsMadeDefects {V = V} b P (Err d)
-    → IfSome (refusal_font_fault (refusal_of_draw d)) (IsReadDefect b P)
-made_tell V true P (draw.Font f) tells = tells
-made_tell V true P (draw.Job j) tells = tt
-made_tell V true P draw.Memory tells = tt
-made_tell V false P (draw.Font f) tells = tells
-made_tell V false P (draw.Job j) tells = tt
-made_tell V false P draw.Memory tells = tt
-
-pub none_made : (V : Type 0) (b : Bool) (P : Fault → Type 0) (v : V) → TellsMadeDefects {V = V} b P (Ok v)
-    → HasNo (IsReadDefect b P)
-none_made V true P v none = none
-none_made V false P v none = λ fault defect. defect
 
 -- a defect by a font's tables is one by the font's file
 pub layout_tells : (V : Type 0) (a : Setting) (text file : List ℕ) (face : Face) (why : Refusal)
