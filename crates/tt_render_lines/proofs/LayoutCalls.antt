@@ -1,5 +1,5 @@
 -- The steps of a call that writes the measure of a text without its ink, joined.
-use Rattle.std.proofs.Common.{◌≡◌, ◌∙◌, ℕ, List, ◌++◌, append_assoc, codes, decimal, flat_map, Bool, true, false, None, Ok, Err, inl, inr, refl}
+use Rattle.std.proofs.Common.{◌≡◌, ◌∙◌, ℕ, List, ◌++◌, append_assoc, codes, decimal, flat_map, None, Ok, Err, inl, inr, refl}
 use Rattle.std.specs.Fmt.{signed_decimal}
 use Rattle.std.specs.Prelude.{IfSome}
 use Rattle.tt_core.specs.declared.collection.Reading.{Reading}
