@@ -67,21 +67,21 @@ fn serve<R: Files + Env + Print + Eprint + AllocGlobal>(rt: &R, stdin: Stdin, st
         Err(error) => return tell_error(rt, &words, &error, &mut errors),
     };
     let axes = match axes_asked(rt.alloc(), command.instance.axes) {
-        Ok(axes) => axes,
-        Err(stop) => return tell_stop(stop, &mut errors),
+        Ok(Some(axes)) => axes,
+        Ok(None) => return tell_stop(Stop::Axis, &mut errors),
+        Err(AllocError) => return tell_stop(Stop::Memory, &mut errors),
     };
     let request = command.request.at(command.instance.asked(&axes));
     if let Some(stop) = stop_of_request(rt.alloc(), &request) {
         return tell_stop(stop, &mut errors);
     }
-    let lines = Lines::new(stdin);
+    let mut lines = Device::new(Lines::new(stdin));
     let file = match fs::open(rt, request.font()) {
         Ok(file) => file,
         Err(error) => return tell_unopened(rt.alloc(), &request, error.kind(), &mut errors),
     };
     let folder = is_folder(&file);
     let mut font = Device::new(file);
-    let mut lines = Device::new(lines);
     let mut out = OutputFiles::new(rt, io::writer(rt), request.output());
     let status = perform(
         rt.alloc(),

@@ -1,5 +1,5 @@
 -- No part of the standard: the words of `--instance` and `--axis`, and their instance (profile).
-use Rattle.std.specs.Prelude.{◌≡◌, refl, ℕ, ◌+◌, ◌-◌, ◌*◌, min, Bool, true, false, ◌&&◌, nat_le, nat_lt, if◌then◌else◌, List, [], ◌∷◌, length, map, fold, codes, Option, Some, None, option_map, Result, Ok, Err, ⊤}
+use Rattle.std.specs.Prelude.{◌≡◌, refl, ℕ, ◌+◌, ◌-◌, ◌*◌, min, Bool, true, false, ◌&&◌, nat_le, nat_lt, if◌then◌else◌, List, [], ◌∷◌, length, map, fold, codes, Option, Some, None, option_map}
 use Rattle.std.specs.List.{list_all}
 use Rattle.tt_axes.specs.AxisWords.{axis_values_of}
 use Rattle.tt_axes.specs.declared.values.AxisValue.{AxisValue}
@@ -8,26 +8,16 @@ use Rattle.tt_face.specs.Instance.{Asked, Named, by_name, by_number}
 use Rattle.tt_program_decisions.specs.declared.instances.InstanceWords.{InstanceWords}
 use Rattle.tt_program_decisions.specs.declared.request.Request.{Request}
 use Rattle.tt_program_decisions.specs.declared.request.Request.TheVariants.{Map, Faces, Text, Lines, Layout, Label, Labels, Bdf}
-use Rattle.tt_program_decisions.specs.declared.stopping.Stop.{Stop}
-use Rattle.tt_program_decisions.specs.declared.stopping.Stop.TheVariants as stop
 
 -- the words by the arguments of a command line: a name's text
 abbrev pub AsksWords : (List ℕ → Option (List ℕ)) → InstanceWords → Type 0
 AsksWords text w =
     (option_map (λ s. s.now) w.named ≡ text (codes "instance")) × (option_map (λ s. s.now) w.axes ≡ text (codes "axis"))
 
--- the values by those of `--axis`, if the words are of the right form; or memory ran out
-abbrev pub AsksValues : Option (List AxisValue) → Result (Vec AxisValue Global) Stop → Type 0
-AsksValues axes (Ok values) = axes ≡ Some values.items
-AsksValues axes (Err stop.Axis) = axes ≡ None
-AsksValues axes (Err stop.Memory) = ⊤
-AsksValues axes (Err why) = ⊥
-
--- the same, where words may be absent
-abbrev pub AsksAxes : Option (List ℕ) → Result (Vec AxisValue Global) Stop → Type 0
-AsksAxes (Some words) r = AsksValues (axis_values_of words) r
-AsksAxes None (Ok values) = values.items ≡ []
-AsksAxes None (Err why) = ⊥
+-- the values by the words of `--axis`, if the words are of the right form; no values without words
+abbrev pub axes_asked : Option (List ℕ) → Option (List AxisValue)
+axes_asked None = Some []
+axes_asked (Some words) = axis_values_of words
 
 abbrev pub is_digit : ℕ → Bool
 is_digit c = nat_le 48 c && nat_le c 57

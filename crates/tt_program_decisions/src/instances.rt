@@ -1,11 +1,10 @@
 //! The words of `--instance` and `--axis`, and their instance.
 
-ghost use Rattle.std.specs.Prelude.{◌≡◌, None, option_map};
+ghost use Rattle.std.specs.Prelude.{◌≡◌, true, is_some, option_map, IfErr, IfOk};
 ghost use Rattle.tt_face.specs.Views.{asked_view, named_view};
-ghost use Rattle.tt_program_decisions.specs.Instances.{AsksAxes, AsksWords, instance_asked, is_number, named_asked, number_of, with_digit};
+ghost use Rattle.tt_program_decisions.specs.Instances.{AsksWords, axes_asked, instance_asked, is_number, named_asked, number_of, with_digit};
 
 use crate::request::Arguments;
-use crate::stopping::Stop;
 use std::alloc::{AllocError, Global};
 use tt_axes::{AxisValue, read_axis_values};
 use tt_face::{AskedInstance, NamedBy};
@@ -29,18 +28,15 @@ pub fn instance_words<'a, A: Arguments<'a>>(arguments: &A) -> InstanceWords<'a>
     }
 }
 
-/// The values that the words of `--axis` give; none where these are absent. Errors: Axis, of words of another form;
-/// Memory.
-pub fn axes_asked(alloc: Global, words: Option<&str>) -> Result<Vec<AxisValue>, Stop>
-    ensures { AsksAxes (option_map (λ s. s.now) words.entry) result }
+/// The values that the words of `--axis` give, no values where these are absent. None where the words are of another form.
+/// Error: memory ran out.
+pub fn axes_asked(alloc: Global, words: Option<&str>) -> Result<Option<Vec<AxisValue>>, AllocError>
+    ensures exact { IfOk result (λ axes. option_map (λ vs. vs.items) axes ≡ axes_asked (option_map (λ s. s.now) words.entry)) }
+    ensures memory { IfErr result (λ e. is_some words ≡ true) }
 {
-    let Some(words) = words else {
-        return Ok(Vec::new(alloc));
-    };
-    match read_axis_values(alloc, words.as_bytes()) {
-        Ok(Some(axes)) => Ok(axes),
-        Ok(None) => Err(Stop::Axis),
-        Err(AllocError) => Err(Stop::Memory),
+    match words {
+        Some(words) => read_axis_values(alloc, words.as_bytes()),
+        None => Ok(Some(Vec::new(alloc))),
     }
 }
 

@@ -138,8 +138,8 @@ fn axes_in(alloc: Global, line: &mut Line) -> Option<Vec<AxisValue>> {
         return None;
     }
     match axes_asked(alloc, Some(word)) {
-        Ok(axes) => Some(axes),
-        Err(_) => {
+        Ok(Some(axes)) => Some(axes),
+        _ => {
             line.refuse("no such axes");
             None
         }
