@@ -13,8 +13,6 @@ import markdown
 EXAMPLES = {
     "An opcode on the stack": (r"\b(ROLL|Roll|roll)\b",),
     "An opcode on points": (r"\b(SHPIX|Shpix|shpix)\b|shpix_",),
-    # The last words are where formats that are not read are listed.
-    "A format of cmap": (r"[Ff]ormat ?12|format12|format 4 or 12|format \{number\} is passed over",),
     "A refusal of a font": (r"ScaledOffset|scaled_offset|\bis_limit\b|\bPLACES_OF_FACE\b",),
     "An option of the command": (r'--missing|"missing"|MISSING_WORDS|Missing::|enum Missing|\\-missing',),
     "A call of the C library": (r"tt_characters|CCharacter",),
