@@ -1,5 +1,5 @@
--- OpenType, "gvar" (phantom points): the advances of a face in font units. At an instance of a font without HVAR an advance
--- goes from end to end of the glyph's own data. Then these are read, and can be refused (profile).
+-- OpenType, "gvar" (phantom points): the advances of a face in font units. At an instance of a font without HVAR an
+-- advance goes from end to end of the glyph's own data. Then these are read, and can be refused (profile).
 use Rattle.std.specs.Prelude.{◌≡◌, refl, ℕ, Bool, is_some, if◌then◌else◌, List, [], ◌∷◌, map, Option, Some, None, Result, Ok, Err}
 use Rattle.tt_core.specs.Faults.{Fault}
 use Rattle.tt_core.specs.Outcomes.{◌>>=◌}

@@ -1,4 +1,4 @@
--- Worked values: the advances of a font without HVAR. It is built by hand, and FreeType 2.12.1 was asked for the same places.
+-- Worked values: the advances of a font without HVAR. It is built by hand, and FreeType 2.12.1 gives the same places.
 use Rattle.std.specs.Prelude.{◌≡◌, refl, ℕ, List, [], ◌∷◌, map, Option, Some, None, Result, Ok, Err, ℤ, pos, negsuc}
 use Rattle.tt_axes.specs.Shares.{share_of_tuple_axis}
 use Rattle.tt_core.specs.Faults.{Fault}

@@ -58,8 +58,8 @@ impl<'f, 'a> FoundAdvances<'f, 'a> {
         })
     }
 
-    /// The advance of a glyph. Errors: those of reading the glyph, GlyphVariation, Memory.
-    fn units(&mut self, glyph: u16) -> Result<u16, FontFault>
+    /// The advance of a glyph in font units. Errors: those of reading the glyph, GlyphVariation, Memory.
+    pub fn units(&mut self, glyph: u16) -> Result<u16, FontFault>
         requires { glyph < glyphs_of self.old.face.metrics }
         ensures exact { FontGives (λ n. n) result (glyph_units self.old.face.instance self.old.face.metrics self.old.tables glyph) }
         ensures same { self.new ≡ self.old }

@@ -1,5 +1,5 @@
 -- The characters of a file, and the defects of their glyphs.
-use Rattle.std.proofs.Common.{◌≡◌, refl, sym, subst, ℕ, ◌<◌, Bool, true, false, nat_lt, List, [], ◌∷◌, length, Result, Ok, Err, arith}
+use Rattle.std.proofs.Common.{◌≡◌, refl, sym, subst, ℕ, ◌<◌, Bool, true, false, nat_lt, List, [], ◌∷◌, length, Result, Ok, Err, inl, inr, arith}
 use Rattle.std.specs.Prelude.{All, if◌then◌else◌}
 use Rattle.std.proofs.lemmas.Bool.Decides.{nat_tests}
 use Rattle.std.proofs.lemmas.List.Elements.{All-head, All-tail}
@@ -8,15 +8,18 @@ use Rattle.tt_bdf.specs.declared.range.CodeRange.{CodeRange}
 use Rattle.tt_cmap.specs.Maps.{CharacterMap}
 use Rattle.tt_core.specs.declared.fault.JobFault.{JobFault}
 use Rattle.tt_core.specs.declared.fault.JobFault.TheVariants as job
+use Rattle.tt_core.specs.Directory.{HasNo}
 use Rattle.tt_core.specs.Faults.{Fault}
 use Rattle.tt_core.specs.Limits.{text_limit}
 use Rattle.tt_core.specs.Outcomes.{◌>>=◌}
 use Rattle.tt_face.specs.Faces.{Face}
 use Rattle.tt_glyphs.specs.Defects.{IsListDefect}
+use Rattle.tt_glyphs.proofs.RefusedAdvances.{list_advances}
 use Rattle.tt_glyphs.specs.Listed.{known_of}
+use Rattle.tt_glyphs.specs.Requests.{Bitmaps, sound_outcome}
 use Rattle.tt_metrics.specs.Metrics.{glyphs_of}
 use Rattle.tt_render_settings.specs.Settings.{job_by}
-use Rattle.tt_strike.specs.Defects.{IsLineDefect}
+use Rattle.tt_strike.specs.Defects.{IsLineDefect, IsMadeDefect}
 use Rattle.tt_bitmap_font.specs.Characters.{asked_ranges, file_glyphs, glyphs_for}
 use Rattle.tt_bitmap_font.specs.declared.font_file.FontFile.{FontFile}
 use Rattle.tt_bitmap_font.specs.FontFiles.{IsGlyphsDefect, glyph_job, setting_of}
@@ -54,10 +57,16 @@ pub list_to_file : (a : FontFile) (face : Face) (cs : List ℕ) (f : Fault)
     → known_of (glyphs_of face.metrics) (glyphs_for face.cmap cs) ≡ file_glyphs a.ranges.now face.cmap a.text.now
     → IsListDefect face (glyph_job a face cs) f → IsGlyphsDefect a face f
 list_to_file a face cs f same stands =
-    subst (λ (gs : List ℕ). IsLineDefect face (job_by (setting_of a) a.text.now) gs f) same stands
+    inl (subst (λ (gs : List ℕ). IsMadeDefect face (job_by (setting_of a) a.text.now) gs f) same stands)
 
-pub file_to_list : (a : FontFile) (face : Face) (cs : List ℕ) (f : Fault)
+-- glyphs that are made have advances
+pub file_sound : (a : FontFile) (face : Face) (cs : List ℕ) (b : Bitmaps)
     → known_of (glyphs_of face.metrics) (glyphs_for face.cmap cs) ≡ file_glyphs a.ranges.now face.cmap a.text.now
-    → IsGlyphsDefect a face f → IsListDefect face (glyph_job a face cs) f
-file_to_list a face cs f same stands =
-    subst (λ (gs : List ℕ). IsLineDefect face (job_by (setting_of a) a.text.now) gs f) (sym same) stands
+    → sound_outcome face (glyph_job a face cs) ≡ Ok b → HasNo (IsListDefect face (glyph_job a face cs)) → HasNo (IsGlyphsDefect a face)
+file_sound a face cs b same made none = λ f defect.
+    let P : List ℕ → Type 0 = λ gs. IsLineDefect face (job_by (setting_of a) a.text.now) gs f in
+    let advances = list_advances face (glyph_job a face cs) b made none in
+    elim (subst P (sym same) defect) [
+      | inl one ↦ none f one
+      | inr units ↦ advances f units.1
+    ]

@@ -23,8 +23,8 @@ use Rattle.tt_glyphs.specs.declared.told.GlyphEntry.{GlyphEntry}
 use Rattle.tt_glyphs.specs.declared.told.Told.{Told}
 use Rattle.tt_glyphs.specs.declared.told.Told.TheVariants as told
 
--- the report of a glyph by its advance in pixels, the distance of its advance's two ends in 26.6 pixels, its fault and its
--- place
+-- the report of a glyph by its advance in pixels, the distance of its advance's two ends in 26.6 pixels, its fault and
+-- its place
 abbrev pub made_within : ℕ → ℤ → Option Fault → InkPlace → Told
 made_within advance left unfitted p = if is_large p then told.Large
     else told.Made (record { advance = advance; advance_left = left; place = p; unfitted = unfitted })

@@ -61,8 +61,8 @@ fn rest_of(left: LineLimits, chords: usize, crossings: u64) -> Option<LineLimits
     })
 }
 
-/// The pixels from the pen of a glyph to the next: its own step where work is bounded, else its advance. Error: memory ran
-/// out, at an instance without HVAR alone.
+/// The pixels from the pen of a glyph to the next: its own step where work is bounded, else its advance. Error: memory
+/// ran out, at an instance without HVAR alone.
 fn advance_of(source: &FitterSource, number: u16, step: u32) -> Result<u32, AllocError>
     requires { number < glyphs_of source.now.face.now.metrics }
     ensures { IfOk result (λ n. n ≡ advance_of source.now.face.now source.now.ppem source.now.fit number step) }

@@ -144,8 +144,8 @@ impl BitmapList {
 
     /// The bitmaps of at most 4,096 glyph numbers, in the list's order. Each glyph is made once, with one fitter. A
     /// refused glyph has its fault in its entry, and the others are made. Errors, the first of: SizeRange, TextLong;
-    /// those of loca and glyf, of the programs; WorkLarge of the points, of the deltas, of the chords, of the crossings. Memory may
-    /// come at any allocation.
+    /// those of loca and glyf, of the programs; WorkLarge of the points, of the deltas, of the chords, of the
+    /// crossings. Memory may come at any allocation.
     pub fn make(
         alloc: Global,
         face: &Face,

@@ -48,8 +48,8 @@ fn charge(fit: Fit, fitter: &mut Fitter, numbers: &[u16]) -> Result<(), DrawFaul
 }
 
 /// The distinct glyphs of at most 4,096 numbers, tried with one fitter in the list's order. Errors, the first of:
-/// SizeRange, TextLong; those of loca and glyf, of the programs; WorkLarge of the points, and of the deltas. Memory may come
-/// at any allocation.
+/// SizeRange, TextLong; those of loca and glyf, of the programs; WorkLarge of the points, and of the deltas. Memory may
+/// come at any allocation.
 pub(crate) fn tried_list<'f, 'a>(
     alloc: Global,
     face: &'f Face<'a>,

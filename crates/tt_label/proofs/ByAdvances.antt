@@ -1,5 +1,5 @@
 -- A label that is laid out by advances: what its glyphs stop, and what they tell.
-use Rattle.std.proofs.Common.{◌≡◌, ◌∙◌, refl, sym, false, ℕ, List, Result, Ok, Err}
+use Rattle.std.proofs.Common.{◌≡◌, ◌∙◌, refl, sym, false, ℕ, List, Ok, Err}
 use Rattle.std.specs.Prelude.{IfSome}
 use Rattle.tt_advances.specs.Found.{advances_tested}
 use Rattle.tt_advances.specs.Lines.{advance_step}
@@ -8,7 +8,6 @@ use Rattle.tt_core.specs.declared.draw_fault.DrawFault.{DrawFault}
 use Rattle.tt_core.specs.declared.font_fault.FontFault.{FontFault}
 use Rattle.tt_core.specs.declared.font_fault.FontFault.TheVariants as fault
 use Rattle.tt_core.specs.Outcomes.{◌>>=◌, draw_fault_of_font, font_fault}
-use Rattle.tt_core.specs.Faults.{Fault}
 use Rattle.tt_face.specs.Faces.{Face}
 use Rattle.tt_label.specs.Label.{joint, joint_numbers, label_glyphs, label_placed, stepped_lines}
 use Rattle.tt_label.specs.Made.{label_shapes}
@@ -63,13 +62,6 @@ pub units_stop_label : (face : Face) (a : Job) (how : Align) (e : FontFault) →
     → IfSome (refusal (draw_fault_of_font e)) (λ r. label_placed face a how ≡ Err r)
 units_stop_label face a how (fault.Font f) passes unbounded fails = placed_by_advances face a how passes unbounded ∙ rw fails refl
 units_stop_label face a how fault.Memory passes unbounded fails = tt
-
--- where the advances of some glyphs are not found
-pub found_fails : {Y : Type 0} (r : Result (Unit {0}) Fault) (next : Unit {0} → Y) (e : FontFault)
-    → IfSome (font_fault e) (λ f. (r >>= λ u. Ok (next u)) ≡ Err f) → IfSome (font_fault e) (λ f. r ≡ Err f)
-found_fails r next fault.Memory fails = tt
-found_fails (Ok u) next (fault.Font f) fails = absurd cc
-found_fails (Err g) next (fault.Font f) fails = fails
 
 pub units_ready_label : (face : Face) (a : Job) (how : Align) (lines : List (List (ℕ × ℕ))) → tested a ≡ Ok tt → is_bounded a.fit ≡ false
     → FontLines face a lines

@@ -3,6 +3,7 @@ pub mod ByStep
 pub mod Drawn
 pub mod EmptyTexts
 pub mod Finished
+pub mod FoundLines
 pub mod Grown
 pub mod Joined
 pub mod LabelApart

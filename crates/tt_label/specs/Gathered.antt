@@ -1,5 +1,5 @@
--- No part of the standard: the glyphs of a text that is broken into rows. They are made one after the other, as those of one
--- line, whatever rows they stand in.
+-- No part of the standard: the glyphs of a text that is broken into rows. They are made one after the other, as those
+-- of one line, whatever rows they stand in.
 use Rattle.std.specs.Prelude.{◌≡◌, ℕ, ℤ, pos, if◌then◌else◌, List, map, Result, Ok}
 use Rattle.tt_core.specs.Outcomes.{◌>>=◌}
 use Rattle.tt_face.specs.Faces.{Face}

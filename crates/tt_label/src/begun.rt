@@ -83,8 +83,8 @@ fn gathered_line(glyphs: Vec<(u16, u32)>, margin: u32) -> Laid
 }
 
 /// The units of a text, by the steps of its glyphs, which are fitted; only where work is bounded. Errors, the first of:
-/// those of loca and glyf, of the programs; WorkLarge of the points, and of the deltas; those of the glyphs in the order of
-/// the text. Memory may come at any allocation.
+/// those of loca and glyf, of the programs; WorkLarge of the points, and of the deltas; those of the glyphs in the
+/// order of the text. Memory may come at any allocation.
 fn begin_by_steps(
     sized: &mut SizedFace,
     text: &str,
@@ -114,8 +114,8 @@ fn begin_by_steps(
 }
 
 /// The units of a text, by advances, and its glyphs; only where work is not bounded. Errors, the first of: those of the
-/// advances, at an instance without HVAR alone; those of loca and glyf, of the programs; those of the glyphs in the order of
-/// the text. Memory may come at any allocation.
+/// advances, at an instance without HVAR alone; those of loca and glyf, of the programs; those of the glyphs in the
+/// order of the text. Memory may come at any allocation.
 fn begin_by_advances(
     sized: &mut SizedFace,
     text: &str,

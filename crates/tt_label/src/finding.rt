@@ -85,8 +85,6 @@ pub(crate) fn label_units(
     ensures defects { TellsDefects font_fault (IsAdvanceDefect sized.old.face (label_glyphs sized.old.face.cmap text.now)) result }
     ensures same { sized.new ≡ sized.old }
 {
-    tt_advances::laws::tables_give_advances();
-    tt_advances::laws::found_advances_are_whole();
     let alloc = sized.alloc();
     let face = sized.face();
     let ppem = sized.ppem();
@@ -140,8 +138,8 @@ fn found_rows(
     Ok(made)
 }
 
-/// The units of some lines with their steps by advances. Errors: those of `found_rows`, at an instance without HVAR alone;
-/// Memory.
+/// The units of some lines with their steps by advances. Errors: those of `found_rows`, at an instance without HVAR
+/// alone; Memory.
 pub(crate) fn row_units(
     source: &FitterSource,
     lines: &[Vec<RowUnit>],
@@ -151,8 +149,6 @@ pub(crate) fn row_units(
         >>= λ u. Ok (rows.stepped_lines source.now.face.now.metrics (advance_step source.now.face.now source.now.ppem) (map (λ l. l.items) lines.now))) }
     ensures defects { TellsDefects font_fault (IsAdvanceDefect source.now.face.now (rows.all_glyphs (map (λ l. l.items) lines.now))) result }
 {
-    tt_advances::laws::tables_give_advances();
-    tt_advances::laws::found_advances_are_whole();
     let face = source.face;
     if face.finds_advances() {
         return found_rows(source.alloc, face, source.ppem, lines);

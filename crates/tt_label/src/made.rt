@@ -45,8 +45,9 @@ pub fn with_margin(alloc: Global, lines: Vec<Line>, margin: u32) -> Result<Vec<L
 }
 
 /// The lines of a text, laid out by the steps of their glyphs, which are made first; only where work is bounded. Errors,
-/// the first of: those of loca and glyf, of the programs; WorkLarge of the points, and of the deltas; those of the glyphs in
-/// the order of the text; PictureLarge; WorkLarge of the chords, and of the crossings. Memory may come at any allocation.
+/// the first of: those of loca and glyf, of the programs; WorkLarge of the points, and of the deltas; those of the
+/// glyphs in the order of the text; PictureLarge; WorkLarge of the chords, and of the crossings. Memory may come at any
+/// allocation.
 fn make_by_steps(
     sized: &mut SizedFace,
     text: &str,
@@ -78,8 +79,8 @@ fn make_by_steps(
     Ok(MadeLabel { lines, glyphs })
 }
 
-/// The lines of a text, laid out by advances; only where work is not bounded. Errors, the first of: those of the advances,
-/// at an instance without HVAR alone; PictureLarge. Memory may come at any allocation.
+/// The lines of a text, laid out by advances; only where work is not bounded. Errors, the first of: those of the
+/// advances, at an instance without HVAR alone; PictureLarge. Memory may come at any allocation.
 fn lay_label(
     sized: &mut SizedFace,
     text: &str,
@@ -103,9 +104,9 @@ fn lay_label(
     Ok(with_margin(alloc, laid, margin)?)
 }
 
-/// The lines of a text, laid out by advances, and then their glyphs; only where work is not bounded. Errors, the first of:
-/// those of the advances, at an instance without HVAR alone; PictureLarge; those of loca and glyf, of the programs; those of
-/// the glyphs in the order of the text. Memory may come at any allocation.
+/// The lines of a text, laid out by advances, and then their glyphs; only where work is not bounded. Errors, the first
+/// of: those of the advances, at an instance without HVAR alone; PictureLarge; those of loca and glyf, of the programs;
+/// those of the glyphs in the order of the text. Memory may come at any allocation.
 fn make_by_advances(
     sized: &mut SizedFace,
     text: &str,

@@ -15,8 +15,8 @@ use Rattle.tt_metrics.specs.Metrics.{Metrics, advance_of, kerning_of, units_per_
 abbrev pub at_least : ℕ → ℤ → ℕ
 at_least low n = if int_lt n (pos low) then low else unsigned_abs n
 
--- the step of an advance and its kerning, both in font units, at a size in pixels per em: their sum rounded to the nearest
--- pixel, a half upwards; no step is negative (profile)
+-- the step of an advance and its kerning, both in font units, at a size in pixels per em: their sum rounded to the
+-- nearest pixel, a half upwards; no step is negative (profile)
 abbrev pub step_of_units : Metrics → ℕ → ℕ → ℤ → ℕ
 step_of_units m ppem units kerning =
     at_least 0 (rounded_quotient ((pos units +ℤ kerning) *ℤ pos ppem) (pos (units_per_em_of m)))

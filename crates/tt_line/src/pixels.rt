@@ -43,8 +43,8 @@ pub fn step(metrics: &Metrics, ppem: u32, glyph: u16, kerning: i32) -> u32
     step_of_units(metrics, ppem, metrics.advance(glyph), kerning)
 }
 
-/// The pixels from a pen to the next, by an advance and a kerning in font units. Their sum is rounded once. A step is never
-/// negative.
+/// The pixels from a pen to the next, by an advance and a kerning in font units. Their sum is rounded once. A step is
+/// never negative.
 pub fn step_of_units(metrics: &Metrics, ppem: u32, units: u16, kerning: i32) -> u32
     requires size { ppem ≤ size_limit }
     requires kerning { unsigned_abs kerning ≤ 2 ^ 20 }

@@ -18,7 +18,7 @@ use Rattle.tt_strike.specs.Job.{Job}
 use Rattle.tt_render_run.specs.Defects.{TellsDefectsOf, IsJobRefusal}
 use Rattle.tt_strike.specs.Defects.{IsFontRefusal}
 use Rattle.tt_face.specs.Faces.{Face}
-use Rattle.tt_face.specs.Files.{face_with}
+use Rattle.tt_face.specs.Instance.{Asked, face_at_instance}
 use Rattle.tt_strike.specs.Refusals.{Refused, as_font, needs_font, refusal}
 use Rattle.tt_render_run.specs.Outcome.{Wanted, CallFails, IfJob, IfLarge}
 use Rattle.tt_render_streams.specs.Reading.{ReadFails}
@@ -71,27 +71,27 @@ late (Ok face) a j stands = late_refusal face a j stands
 late (Err f) a j stands = absurd stands
 
 -- no picture was made of the bytes read
-pub drawing_fails : (w : Wanted) (made : List ℕ → Result (List ℕ) Refused) → IsOfFont w made → (by : Opening) (a : Job)
+pub drawing_fails : (w : Wanted) (made : List ℕ → Result (List ℕ) Refused) → IsOfFont w made → (by : Opening) (i : Option Asked) (a : Job)
     (d : DrawFault) (before after out : Option (List ℕ)) (file : List ℕ) (read write : Bool)
     → IsRead before after file read write → IfSome (refusal d) (λ e. made file ≡ Err e) → IfSome (draw_job_fault d)
-    (λ j. IsOkAnd (face_with file by) (λ face. IsFontRefusal face a j)) → CallFails (run_fault_of_draw d)
+    (λ j. IsOkAnd (face_at_instance file by i) (λ face. IsFontRefusal face a j)) → CallFails (run_fault_of_draw d)
     (record { left_before = before; left_after = after; read_failed = read; out_before = out; out_after = out; write_failed = write }) w
-drawing_fails w made of_made by a (draw.Font f) before after out file read write r fails extent =
+drawing_fails w made of_made by i a (draw.Font f) before after out file read write r fails extent =
     font_fails w made of_made f before after out file read write r fails
-drawing_fails w made of_made by a (draw.Job j) before after out file read write r fails extent =
-    late_job_fails w made of_made j before after out file read write r fails (late (face_with file by) a j extent)
-drawing_fails w made of_made by a draw.Memory before after out file read write r fails extent =
+drawing_fails w made of_made by i a (draw.Job j) before after out file read write r fails extent =
+    late_job_fails w made of_made j before after out file read write r fails (late (face_at_instance file by i) a j extent)
+drawing_fails w made of_made by i a draw.Memory before after out file read write r fails extent =
     memory_fails w made of_made before after out file read write r
 
-pub drawing_job : (r : Opening) (a : Job) (d : DrawFault) (before after : Option (List ℕ)) (file : List ℕ)
+pub drawing_job : (r : Opening) (i : Option Asked) (a : Job) (d : DrawFault) (before after : Option (List ℕ)) (file : List ℕ)
     → Consumes before after file → IsAtEnd after → IfSome (draw_job_fault d)
-    (λ j. IsOkAnd (face_with file r) (λ face. IsFontRefusal face a j)) → IfJob {V = Unit {0}} (Err (run_fault_of_draw d))
-    (IsJobRefusal r a before)
-drawing_job r a (draw.Font f) before after file taken end extent = tt
-drawing_job r a (draw.Job j) before after file taken end extent =
-    rw (late (face_with file r) a j extent) (known_of before after file
-    (λ file. IsOkAnd (face_with file r) (λ face. IsFontRefusal face a j)) taken end extent)
-drawing_job r a draw.Memory before after file taken end extent = tt
+    (λ j. IsOkAnd (face_at_instance file r i) (λ face. IsFontRefusal face a j)) → IfJob {V = Unit {0}} (Err (run_fault_of_draw d))
+    (IsJobRefusal r i a before)
+drawing_job r i a (draw.Font f) before after file taken end extent = tt
+drawing_job r i a (draw.Job j) before after file taken end extent =
+    rw (late (face_at_instance file r i) a j extent) (known_of before after file
+    (λ file. IsOkAnd (face_at_instance file r i) (λ face. IsFontRefusal face a j)) taken end extent)
+drawing_job r i a draw.Memory before after file taken end extent = tt
 
 pub drawing_large : (d : DrawFault) (P : Type 0) → IfLarge {V = Unit {0}} (Err (run_fault_of_draw d)) P
 drawing_large (draw.Font f) P = tt

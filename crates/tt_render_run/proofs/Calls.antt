@@ -4,6 +4,7 @@ use Rattle.std.proofs.lemmas.Bool.Decides.{nat_tests}
 use Rattle.std.specs.Io.KnownBytes.{Consumes, IsAtEnd, Keeps}
 use Rattle.tt_core.specs.declared.collection.Reading.{Reading}
 use Rattle.tt_face.specs.declared.rules.Opening.{Opening}
+use Rattle.tt_face.specs.Instance.{Asked}
 use Rattle.tt_core.specs.declared.fault.JobFault.{JobFault}
 use Rattle.tt_core.specs.Faults.{Fault}
 use Rattle.tt_core.specs.Limits.{font_limit}
@@ -24,26 +25,26 @@ pub record IsOfFont (w : Wanted) (made : List ℕ → Result (List ℕ) Refused)
   pub tested : w.tested ≡ Ok tt
   pub same : (file : List ℕ) → w.bytes file ≡ of_font made file
 
-pub map_is_of_font : (r : Reading) (text : List ℕ) → text_tested text ≡ Ok tt → IsOfFont
-    (record { tested = text_tested text; bytes = map_outcome r text }) (λ file. as_font (lines_of r file text))
+pub map_is_of_font : (r : Reading) (i : Option Asked) (text : List ℕ) → text_tested text ≡ Ok tt → IsOfFont
+    (record { tested = text_tested text; bytes = map_outcome r i text }) (λ file. as_font (lines_of r i file text))
 unfolding map_outcome
-map_is_of_font r text good = record { tested = good; same = λ file. rw good refl }
+map_is_of_font r i text good = record { tested = good; same = λ file. rw good refl }
 
-pub run_is_of_font : (r : Opening) (a : Job) → tested a ≡ Ok tt
-    → IsOfFont (record { tested = tested a; bytes = run_outcome r a }) (file_pictured r a)
+pub run_is_of_font : (r : Opening) (i : Option Asked) (a : Job) → tested a ≡ Ok tt
+    → IsOfFont (record { tested = tested a; bytes = run_outcome r i a }) (file_pictured r i a)
 unfolding run_outcome
-run_is_of_font r a good = record { tested = good; same = λ file. rw good refl }
+run_is_of_font r i a good = record { tested = good; same = λ file. rw good refl }
 
 -- a job that is refused at once is refused whatever the font
-pub map_refused : (r : Reading) (text : List ℕ) (j : JobFault) → text_tested text ≡ Err j → (file : List ℕ)
-    → map_outcome r text file ≡ Err (job j)
+pub map_refused : (r : Reading) (i : Option Asked) (text : List ℕ) (j : JobFault) → text_tested text ≡ Err j → (file : List ℕ)
+    → map_outcome r i text file ≡ Err (job j)
 unfolding map_outcome
-map_refused r text j refused file = rw refused refl
+map_refused r i text j refused file = rw refused refl
 
-pub run_refused : (r : Opening) (a : Job) (j : JobFault) → tested a ≡ Err j → (file : List ℕ)
-    → run_outcome r a file ≡ Err (job j)
+pub run_refused : (r : Opening) (i : Option Asked) (a : Job) (j : JobFault) → tested a ≡ Err j → (file : List ℕ)
+    → run_outcome r i a file ≡ Err (job j)
 unfolding run_outcome
-run_refused r a j refused file = rw refused refl
+run_refused r i a j refused file = rw refused refl
 
 too_large : (made : List ℕ → Result (List ℕ) Refused) (file : List ℕ) → font_limit < length file → of_font made file
     ≡ Err large

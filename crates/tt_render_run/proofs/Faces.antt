@@ -1,5 +1,5 @@
 -- The claims of a font's strike about a line, as claims about the font's file.
-use Rattle.std.proofs.Common.{◌≡◌, List, ℕ, Result, Ok, Err, inl, inr, refl, arith}
+use Rattle.std.proofs.Common.{◌≡◌, List, ℕ, Option, Result, Ok, Err, inl, inr, refl, arith}
 use Rattle.std.specs.Prelude.{IfSome, IsOkAnd}
 use Rattle.tt_face.specs.declared.rules.Opening.{Opening}
 use Rattle.tt_core.specs.declared.fault.JobFault.{JobFault}
@@ -8,7 +8,7 @@ use Rattle.tt_core.specs.Directory.{HasNo}
 use Rattle.tt_core.specs.Faults.{Fault}
 use Rattle.tt_core.specs.Outcomes.{◌>>=◌, draw_font_fault, draw_job_fault}
 use Rattle.tt_line.specs.Layout.{text_glyphs}
-use Rattle.tt_face.specs.Files.{face_with, IsFaceDefectBy}
+use Rattle.tt_face.specs.Instance.{Asked, IsDefectAtInstance, face_at_instance}
 use Rattle.tt_strike.specs.Defects.{IsFontRefusal, IsLineDefect, IsLineRefusal, IsRunDefect}
 use Rattle.tt_strike.specs.Job.{Job, IsJob, IsSizeRefusal, size_tested, tested}
 use Rattle.tt_strike.specs.Picture.{line_outcome, pictured_by}
@@ -18,19 +18,19 @@ use Rattle.tt_face.specs.Faces.{Face}
 use Rattle.tt_core.specs.declared.draw_fault.DrawFault.{DrawFault}
 use Rattle.tt_core.specs.declared.draw_fault.DrawFault.TheVariants as draw
 
-pub no_defect : (r : Opening) (a : Job) (file : List ℕ) (face : Face) → face_with file r ≡ Ok face
-    → HasNo (IsFaceDefectBy file r.reading) → HasNo (IsLineDefect face a (text_glyphs face.cmap a.text)) → HasNo (IsRunDefect r a file)
-no_defect r a file face there none line = λ fault defect. elim defect [
+pub no_defect : (r : Opening) (i : Option Asked) (a : Job) (file : List ℕ) (face : Face) → face_at_instance file r i ≡ Ok face
+    → HasNo (IsDefectAtInstance file r i) → HasNo (IsLineDefect face a (text_glyphs face.cmap a.text)) → HasNo (IsRunDefect r i a file)
+no_defect r i a file face there none line = λ fault defect. elim defect [
   | inl tables ↦ none fault tables
   | inr glyphs ↦ line fault (rw there at glyphs)
 ]
 
-pub defect_tells : (r : Opening) (a : Job) (file : List ℕ) (face : Face) (e : DrawFault) → face_with file r ≡ Ok face
+pub defect_tells : (r : Opening) (i : Option Asked) (a : Job) (file : List ℕ) (face : Face) (e : DrawFault) → face_at_instance file r i ≡ Ok face
     → IfSome (draw_font_fault e) (IsLineDefect face a (text_glyphs face.cmap a.text))
-    → IfSome (draw_font_fault e) (IsRunDefect r a file)
-defect_tells r a file face (draw.Font f) there stands = inr (rw there stands)
-defect_tells r a file face (draw.Job j) there stands = tt
-defect_tells r a file face draw.Memory there stands = tt
+    → IfSome (draw_font_fault e) (IsRunDefect r i a file)
+defect_tells r i a file face (draw.Font f) there stands = inr (rw there stands)
+defect_tells r i a file face (draw.Job j) there stands = tt
+defect_tells r i a file face draw.Memory there stands = tt
 
 -- a line of a job within its limits is refused by its font
 by_font : (a : Job) (face : Face) (j : JobFault) → IsJob a → IsLineRefusal face a j → IsFontRefusal face a j
@@ -44,12 +44,12 @@ by_font a face job_of.EmptyPicture valid stands = stands
 by_font a face job_of.PictureLarge valid stands = stands
 by_font a face job_of.WorkLarge valid stands = stands
 
-pub refusal_tells : (r : Opening) (a : Job) (file : List ℕ) (face : Face) (e : DrawFault) → IsJob a
-    → face_with file r ≡ Ok face → IfSome (draw_job_fault e) (IsLineRefusal face a)
-    → IfSome (draw_job_fault e) (λ j. IsOkAnd (face_with file r) (λ face. IsFontRefusal face a j))
-refusal_tells r a file face (draw.Font f) valid there stands = tt
-refusal_tells r a file face (draw.Job j) valid there stands = rw there (by_font a face j valid stands)
-refusal_tells r a file face draw.Memory valid there stands = tt
+pub refusal_tells : (r : Opening) (i : Option Asked) (a : Job) (file : List ℕ) (face : Face) (e : DrawFault) → IsJob a
+    → face_at_instance file r i ≡ Ok face → IfSome (draw_job_fault e) (IsLineRefusal face a)
+    → IfSome (draw_job_fault e) (λ j. IsOkAnd (face_at_instance file r i) (λ face. IsFontRefusal face a j))
+refusal_tells r i a file face (draw.Font f) valid there stands = tt
+refusal_tells r i a file face (draw.Job j) valid there stands = rw there (by_font a face j valid stands)
+refusal_tells r i a file face draw.Memory valid there stands = tt
 
 -- a size out of range is the first refusal of a job
 first_refused : (t : Result (Unit {0}) JobFault) (f : Unit {0} → Result (Unit {0}) JobFault) (r : Refused)

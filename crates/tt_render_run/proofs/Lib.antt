@@ -2,3 +2,4 @@ pub mod Files
 pub mod Calls
 pub mod Answered
 pub mod Faces
+pub mod Mapped

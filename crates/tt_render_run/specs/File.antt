@@ -7,6 +7,6 @@ use Rattle.tt_strike.specs.Job.{Job}
 use Rattle.tt_strike.specs.Picture.{pictured}
 use Rattle.tt_strike.specs.Refusals.{Refused}
 
--- the file of the picture of a job by a reading of a font file, at the instance that is asked for
+-- the file of the picture of a job by a reading of a font file, at the requested instance
 abbrev pub file_pictured : Opening → Option Asked → Job → List ℕ → Result (List ℕ) Refused
 file_pictured r i a file = as_file (pictured r i a file)

@@ -1,5 +1,5 @@
--- The lines of `map`: for each unit its code points, its glyph and the glyph's advance in font units, at the instance that is
--- asked for.
+-- The lines of `map`: for each unit its code points, its glyph and the glyph's advance in font units, at the requested
+-- instance.
 use Rattle.std.specs.Prelude.{ℕ, List, ◌++◌, flat_map, chars, codes, decimal, Option, Some, None, Result, Ok, IsOkAnd, ◌⊎◌, ◌≡◌, refl}
 use Rattle.std.specs.Fmt.{digits}
 use Rattle.tt_core.specs.declared.collection.Reading.{Reading}

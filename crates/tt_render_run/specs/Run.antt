@@ -7,7 +7,7 @@ use Rattle.tt_strike.specs.Refusals.{Refused}
 use Rattle.tt_render_run.specs.File.{file_pictured}
 use Rattle.tt_render_run.specs.Outcome.{Wanted, outcome_of}
 
--- the bytes for a job by a reading of a font file, at the instance that is asked for, or the refusal: the job is tested first,
+-- the bytes for a job by a reading of a font file, at the requested instance, or the refusal: the job is tested first,
 -- then the file's size
 unfoldable pub run_outcome : Opening → Option Asked → Job → List ℕ → Result (List ℕ) Refused
 run_outcome r i a file = outcome_of (tested a) (file_pictured r i a) file

@@ -19,10 +19,10 @@ use tt_render_streams::{Drawn, piece_for};
 use tt_strike::{DrawFault, Face, Job, Strike};
 
 /// The picture of a job by a font file, and memory for writing it. Errors, the first of: those of the tables
-/// needed for every text, by the job's reading; those of the instance that is asked for; EmptyPicture, PictureLarge; those of loca and glyf; those of the programs; those of the glyphs
-/// in the order of the text. With `Fit::Best` WorkLarge of the points and of the deltas comes before those of the glyphs. There
-/// EmptyPicture and PictureLarge come after the glyphs, then WorkLarge of the chords, and of the crossings. Memory may
-/// come at any allocation.
+/// needed for every text, by the job's reading; those of the requested instance; EmptyPicture, PictureLarge; those of
+/// loca and glyf; those of the programs; those of the glyphs in the order of the text. With `Fit::Best` WorkLarge of
+/// the points and of the deltas comes before those of the glyphs. There EmptyPicture and PictureLarge come after the
+/// glyphs, then WorkLarge of the chords, and of the crossings. Memory may come at any allocation.
 #[tactic(auto, unfolding(tt_strike::specs::Picture::pictured, tt_strike::specs::Report::report_of))]
 pub(crate) fn draw(
     alloc: Global,

@@ -1,15 +1,13 @@
 //! Writes each unit's glyph and advance as lines, by a font from a reader.
 
-ghost use Rattle.std.specs.Prelude.{◌≡◌, ℕ, ◌<◌, ◌≤◌, ◌^◌, true, false, length, map, flat_map, chars, option_map, All, IfOk, IfSome};
+ghost use Rattle.std.specs.Prelude.{◌≡◌, ◌<◌, ◌≤◌, true, false, length, chars, option_map, IfOk, IfSome};
 ghost use Rattle.tt_advances.specs.Defects.{IsAdvanceDefect};
-ghost use Rattle.tt_cmap.specs.Maps.{glyph_of_unit, units_by};
 ghost use Rattle.tt_core.specs.declared.fault.JobFault.TheVariants.{TextLong};
 ghost use Rattle.tt_core.specs.Limits.{font_limit, text_limit};
 ghost use Rattle.tt_core.specs.Outcomes.{FontGives, font_fault};
 ghost use Rattle.tt_face.specs.Faces.{finds_advances};
 ghost use Rattle.tt_face.specs.Views.{asked_view};
 ghost use Rattle.tt_line.specs.Layout.{text_glyphs};
-ghost use Rattle.tt_metrics.specs.Metrics.{glyphs_of};
 ghost use Rattle.tt_render_run.specs.Defects.{TellsDefectsOf};
 ghost use Rattle.tt_render_run.specs.MapLines.{IsMapDefect, lines_in, lines_of, map_lines, map_wanted, unit_text};
 ghost use Rattle.tt_render_run.specs.Outcome.{CallGives, IfJob, IfLarge};
@@ -17,8 +15,8 @@ ghost use Rattle.tt_render_streams.specs.Traffic.{traffic_of};
 ghost use Rattle.tt_strike.specs.Defects.{TellsDefects};
 
 use std::alloc::{AllocError, Global};
-use tt_advances::find_units;
-use tt_cmap::{CharacterMap, KnownGlyphs, TextUnit};
+use tt_advances::FoundAdvances;
+use tt_cmap::{KnownGlyphs, TextUnit};
 use tt_core::{FontFault, Reading, Sink, Source};
 use tt_face::AskedInstance;
 use tt_pbm::{Ascii, write_all_of};
@@ -26,8 +24,8 @@ use tt_render_streams::{RunFault, push_name, read_font};
 use tt_strike::{Face, Opening, test_text};
 
 /// Writes a line `U+NNNN glyph advance` for each unit of the text: the code point in capital hexadecimal, the glyph's
-/// number and its advance in font units, at the instance that is asked for. With the wide reading a unit with a variation selector has
-/// `U+NNNN U+NNNN glyph advance`. Nothing is written before all lines are made.
+/// number and its advance in font units, at the requested instance. With the wide reading a unit with a variation
+/// selector has `U+NNNN U+NNNN glyph advance`. Nothing is written before all lines are made.
 ///
 /// Errors, the first of: Job (TextLong), before the font is read; Read, FontLarge; Font, in the order in which the
 /// bytes are read; Write. Memory may come at any allocation.
@@ -66,7 +64,6 @@ fn lines_by(
     ensures exact { FontGives (λ lines. lines.items) result (lines_of reading (option_map asked_view instance.entry) file.now text.now) }
     ensures defects { TellsDefects font_fault (IsMapDefect reading (option_map asked_view instance.entry) text.now file.now) result }
 {
-    tt_advances::laws::found_advances_are_whole();
     let face = Face::read_at(file, Opening::plain(reading), instance)?;
     if face.finds_advances() {
         return found_lines(alloc, &face, text);
@@ -79,7 +76,6 @@ fn lines(alloc: Global, face: &Face, text: &str) -> Result<Vec<u8>, AllocError>
     requires { finds_advances face.now ≡ false }
     ensures { IfOk result (λ lines. lines.items ≡ map_lines face.now text.now) }
 {
-    tt_advances::laws::tables_give_advances();
     let metrics = face.metrics();
     let cmap = face.cmap();
     let mut lines = Vec::new(alloc);
@@ -93,40 +89,6 @@ fn lines(alloc: Global, face: &Face, text: &str) -> Result<Vec<u8>, AllocError>
     Ok(lines)
 }
 
-/// The glyphs of a text's units. Error: Memory.
-fn unit_glyphs(alloc: Global, face: &Face, text: &str) -> Result<Vec<(u16, u32)>, AllocError>
-    ensures exact { IfOk result (λ v. map (λ g. g.0) v.items ≡ text_glyphs face.now.cmap text.now) }
-    ensures known { IfOk result (λ v. All (λ g. g.0 < glyphs_of face.now.metrics) v.items) }
-{
-    let cmap = face.cmap();
-    let mut glyphs = Vec::new(alloc);
-    for unit in cmap.units(text) {
-        glyphs.push((cmap.glyph_of_unit(unit), 0))?;
-    }
-    Ok(glyphs)
-}
-
-/// The lines of a text's units, by the advances of their glyphs.
-fn lines_with(
-    alloc: Global,
-    cmap: &CharacterMap,
-    text: &str,
-    line_units: &[(u16, u32)],
-) -> Result<Vec<u8>, AllocError>
-    requires { All (λ g. g.1 < 2 ^ 16) line_units.now }
-    ensures { IfOk result (λ lines. (units : ℕ → ℕ) → line_units.now ≡ map (λ g. (g, units g)) (text_glyphs cmap.now text.now)
-        → lines.items ≡ flat_map (λ u. unit_text u (glyph_of_unit cmap.now u) (units (glyph_of_unit cmap.now u))) (units_by cmap.now (chars text.now))) }
-{
-    let mut lines = Vec::new(alloc);
-    let mut line = Ascii::new();
-    for (unit, placed) in cmap.units(text).zip(line_units) {
-        let (glyph, units) = *placed;
-        make_line(&mut line, unit, glyph, units as u16);
-        lines.extend_from_slice(line.as_bytes())?;
-    }
-    Ok(lines)
-}
-
 /// The lines by the data of the glyphs; only at an instance without HVAR. Errors: those of loca and glyf; those of the
 /// first glyph that has one: of reading the glyph, GlyphVariation. Memory may come at any allocation.
 #[tactic(auto, unfolding(crate::specs::MapLines::lines_in))]
@@ -135,9 +97,18 @@ fn found_lines(alloc: Global, face: &Face, text: &str) -> Result<Vec<u8>, FontFa
     ensures exact { FontGives (λ lines. lines.items) result (lines_in face.now text.now) }
     ensures defects { TellsDefects font_fault (IsAdvanceDefect face.now (text_glyphs face.now.cmap text.now)) result }
 {
-    let mut glyphs = unit_glyphs(alloc, face, text)?;
-    find_units(alloc, face, &mut glyphs)?;
-    Ok(lines_with(alloc, face.cmap(), text, &glyphs)?)
+    let cmap = face.cmap();
+    let mut found = FoundAdvances::open(alloc, face)?;
+    let mut lines = Vec::new(alloc);
+    let mut known = KnownGlyphs::new(cmap);
+    let mut line = Ascii::new();
+    for unit in cmap.units(text) {
+        let number = known.glyph_of_unit(unit);
+        let units = found.units(number)?;
+        make_line(&mut line, unit, number, units);
+        lines.extend_from_slice(line.as_bytes())?;
+    }
+    Ok(lines)
 }
 
 /// Makes the line of a unit, from its end.

@@ -19,7 +19,7 @@ use tt_face::AskedInstance;
 use tt_render_streams::{Drawn, RunFault, read_font, write_picture};
 use tt_strike::{Job, Report, test_job};
 
-/// Draws a line of text at an instance of the font, its default where none is asked for, and writes its picture as binary
+/// Draws a line of text at an instance of the font, its default where none is requested, and writes its picture as binary
 /// PBM (P4). A pixel is black where its centre lies on, or
 /// inside, the chord outline of some glyph of the line. Each curve is eight chords. With `Fit::Best` a curve is 1 to 32
 /// chords by its bend, and a glyph's dropouts, by the scan type of the font's programs, are black too. Nothing is
@@ -28,9 +28,10 @@ use tt_strike::{Job, Report, test_job};
 ///
 /// Errors, the first of: Job (SizeRange, MarginRange, TextLong), before the font is read; Read, FontLarge; Font and Job
 /// (EmptyPicture, PictureLarge, WorkLarge), in reading order; Write. The picture's size is known after cmap, at an
-/// instance without HVAR after the advances of the glyphs, and with `Fit::Best` once the outlines of its glyphs are made. WorkLarge comes with `Fit::Best` alone: for too many points, or
-/// deltas of the instance, before the outlines are made; and after the picture's size is tested, for too many chords, or for too many crossings
-/// of rows, in the picture and outside, with the search for dropouts. Memory may come at any allocation.
+/// instance without HVAR after the advances of the glyphs, and with `Fit::Best` once the outlines of its glyphs are
+/// made. WorkLarge comes with `Fit::Best` alone: for too many points, or deltas of the instance, before the outlines
+/// are made; and after the picture's size is tested, for too many chords, or for too many crossings of rows, in the
+/// picture and outside, with the search for dropouts. Memory may come at any allocation.
 pub fn run<R: Source, W: Sink>(
     alloc: Global,
     font: &mut R,

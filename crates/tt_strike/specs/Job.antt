@@ -13,8 +13,8 @@ use Rattle.tt_fit.specs.declared.programs.Fit.TheVariants as fit
 use Rattle.tt_strike.specs.Refusals.{Refused, as_font}
 use Rattle.tt_strike.specs.declared.job.Job as declared
 
--- a text, the pixels per em, the pixels round the line, and how outlines are fitted. The way in which the face is opened, and
--- the instance that is asked for, stand beside the job: once the face is open, nothing else depends on them
+-- a text, the pixels per em, the pixels round the line, and how outlines are fitted. How the face is opened, and the
+-- requested instance, stand beside the job: once the face is open, nothing else depends on them
 pub record Job : Type 0 where
   pub text : List ℕ
   pub ppem : ℕ
@@ -61,7 +61,7 @@ IsTestRefusal a fault.MarginRange = margin_limit < a.margin
 IsTestRefusal a fault.TextLong = text_limit < length (chars a.text)
 IsTestRefusal a j = ⊥
 
--- what a job makes of the face of a font file, at the instance that is asked for
+-- what a job makes of the face of a font file, at the requested instance
 abbrev pub by_face : {X : Type 0} → (Face → Job → Result X Refused) → Opening → Option Asked → Job → List ℕ → Result X Refused
 by_face make r i a file = as_font (face_at_instance file r i) >>= λ face. make face a
 

@@ -30,7 +30,7 @@ IsNotMemory (draw.Font f) = ⊤
 IsNotMemory (draw.Job j) = ⊤
 IsNotMemory draw.Memory = ⊥
 
--- a defect of the data by which some glyphs are laid out: where they are made, one of the line, else one of their advances;
+-- a defect of the data that lay some glyphs out: where they are made, one of the line, else one of their advances;
 -- only at an instance without HVAR is there any such data
 abbrev pub LayoutDefectBy : Bool → Face → Job → List ℕ → Fault → Type 0
 LayoutDefectBy true face a gs fault = IsLineDefect face a gs fault

@@ -124,6 +124,6 @@ pictured_by face a = text_placed face a >>= λ line. drawn face a line
 unfoldable pub line_outcome : Face → Job → Result Image Refused
 line_outcome face a = as_job (tested a) >>= λ u. pictured_by face a
 
--- the picture of a job by a font file as it is opened, at the instance that is asked for
+-- the picture of a job by a font file as it is opened, at the requested instance
 unfoldable pub pictured : Opening → Option Asked → Job → List ℕ → Result Image Refused
 pictured r i a file = by_face pictured_by r i a file

@@ -25,6 +25,6 @@ line_report face a line =
 unfoldable pub report_by : Face → Job → Result (List Unfitted) Refused
 report_by face a = text_placed face a >>= λ line. line_report face a line
 
--- the unfitted glyphs of a text by a font file as it is opened, at the instance that is asked for
+-- the unfitted glyphs of a text by a font file as it is opened, at the requested instance
 unfoldable pub report_of : Opening → Option Asked → Job → List ℕ → Result (List Unfitted) Refused
 report_of r i a file = by_face report_by r i a file

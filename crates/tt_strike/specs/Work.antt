@@ -1,5 +1,5 @@
--- No part of the standard: the limits of a job's work (profile). It is bounded only with best. Before a glyph is made, its
--- points and the deltas of the face's instance are counted by headers alone.
+-- No part of the standard: the limits of a job's work (profile). It is bounded only with best. Before a glyph is made,
+-- its points and the deltas of the face's instance are counted by headers alone.
 use Rattle.std.specs.Prelude.{◌≡◌, refl, ℕ, ◌+◌, ◌*◌, ◌/◌, min, ◌&&◌, nat_lt, Bool, true, false, if◌then◌else◌, List, Option, Some, None, Result, Ok, Err}
 use Rattle.std.specs.List.{sum_by}
 use Rattle.tt_core.specs.declared.fault.JobFault.{JobFault}
@@ -62,7 +62,7 @@ counts_tested how points deltas =
 abbrev pub asked_tested : Fit → Fitter → List ℕ → Result (Unit {0}) JobFault
 asked_tested how s gs = counts_tested how (points_in s gs) (deltas_in s gs)
 
--- what points and deltas take of a line's work
+-- the part of a line's work that points and deltas take
 abbrev pub work_of_counts : ℕ → ℕ → ℕ
 work_of_counts points deltas = point_work * points + delta_work * deltas
 

@@ -20,8 +20,8 @@ use tt_line::{advance_steps, put_unit_steps};
 
 impl<'f, 'a> SizedFace<'f, 'a> {
     /// The glyph of each unit of a text with its step, by the data of the glyphs; only at an instance without HVAR.
-    /// Errors: those of loca and glyf; those of the first glyph that has one: of reading the glyph, GlyphVariation. Memory
-    /// may come at any allocation.
+    /// Errors: those of loca and glyf; those of the first glyph that has one: of reading the glyph, GlyphVariation.
+    /// Memory may come at any allocation.
     fn found_steps(&mut self, text: &str) -> Result<Vec<(u16, u32)>, FontFault>
         requires text { length (chars text.now) ≤ text_limit }
         requires finds { finds_advances self.old.face ≡ true }
@@ -41,8 +41,8 @@ impl<'f, 'a> SizedFace<'f, 'a> {
         Ok(steps)
     }
 
-    /// The glyph of each unit of a text with its step, by advances. Errors: those of `found_steps`, at an instance without
-    /// HVAR alone; Memory.
+    /// The glyph of each unit of a text with its step, by advances. Errors: those of `found_steps`, at an instance
+    /// without HVAR alone; Memory.
     pub(crate) fn unit_steps(&mut self, text: &str) -> Result<Vec<(u16, u32)>, FontFault>
         requires text { length (chars text.now) ≤ text_limit }
         ensures exact { FontGives (λ v. v.items) result (advances_tested self.old.face (text_glyphs self.old.face.cmap text.now) >>= λ u. Ok (advance_line self.old.face self.old.ppem (text_glyphs self.old.face.cmap text.now))) }

@@ -1,4 +1,5 @@
-//! Lays a text out by advances, once the text and its margin are tested. At an instance without HVAR they are found first.
+//! Lays a text out by advances, once the text and its margin are tested. At an instance without HVAR they are found
+//! first.
 
 ghost use Rattle.std.specs.Prelude.{◌≡◌, ◌<◌, ◌≤◌, false, length, map, chars, All, IfOk, IsOkAnd};
 ghost use Rattle.tt_advances.specs.Defects.{IsAdvanceDefect};
@@ -22,8 +23,8 @@ use tt_core::DrawFault;
 use tt_line::{Line, lay, lay_steps};
 
 impl<'f, 'a> SizedFace<'f, 'a> {
-    /// Lays a tested text out by the data of its glyphs; only at an instance without HVAR, where work is not bounded. Errors,
-    /// the first of: those of `unit_steps`; EmptyPicture, PictureLarge. Memory may come at any allocation.
+    /// Lays a tested text out by the data of its glyphs; only at an instance without HVAR, where work is not bounded.
+    /// Errors, the first of: those of `unit_steps`; EmptyPicture, PictureLarge. Memory may come at any allocation.
     #[tactic(auto, unfolding(crate::specs::Picture::placed_by_units))]
     fn lay_found(&mut self, text: &str, margin: u32) -> Result<Laid, DrawFault>
         requires margin { margin ≤ margin_limit }
@@ -45,8 +46,8 @@ impl<'f, 'a> SizedFace<'f, 'a> {
     }
 
     /// Tests a margin and a text, and lays the text out by advances; only where work is not bounded. Errors, the first
-    /// of: MarginRange, TextLong; at an instance without HVAR those of the advances; EmptyPicture, PictureLarge. Memory may
-    /// come at any allocation.
+    /// of: MarginRange, TextLong; at an instance without HVAR those of the advances; EmptyPicture, PictureLarge. Memory
+    /// may come at any allocation.
     pub(crate) fn lay_out(&mut self, text: &str, margin: u32) -> Result<Laid, DrawFault>
         requires unbounded { is_bounded self.old.fit ≡ false }
         ensures exact { GivesUnless refusal (λ l. placement_of l.line) result (laid_out self.old.face (job_by self.old text.now margin)) }

@@ -93,9 +93,8 @@ fn pens_at(
 
 impl<'f, 'a> SizedFace<'f, 'a> {
     /// The glyph of each unit of a text with its step, by the glyphs, which are made; only where work is bounded.
-    /// Errors, the first of: those of loca and glyf, of the programs; WorkLarge of the points, and of the deltas; those of
-    /// the glyphs.
-    /// Memory may come at any allocation.
+    /// Errors, the first of: those of loca and glyf, of the programs; WorkLarge of the points, and of the deltas; those
+    /// of the glyphs. Memory may come at any allocation.
     fn made_steps(&mut self, text: &str) -> Result<Vec<(u16, u32)>, DrawFault>
         requires text { length (chars text.now) ≤ text_limit }
         requires bounded { is_bounded self.old.fit ≡ true }
@@ -153,9 +152,9 @@ impl<'f, 'a> SizedFace<'f, 'a> {
 
     /// The layout of a text of at most 4,096 characters with a margin of 0 to 64 pixels: the size of the picture that
     /// does not grow, its base line, and its distance from a next line. Errors, the first of: MarginRange, TextLong;
-    /// with `Fit::Best` those of loca and glyf, of the programs, WorkLarge of the points and of the deltas, and those of the
-    /// glyphs; at an instance without HVAR with any other fit those of the advances; EmptyPicture, PictureLarge. Only with
-    /// `Fit::Best`, or at such an instance, may Memory come, and are glyphs read.
+    /// with `Fit::Best` those of loca and glyf, of the programs, WorkLarge of the points and of the deltas, and those
+    /// of the glyphs; at an instance without HVAR with any other fit those of the advances; EmptyPicture, PictureLarge.
+    /// Only with `Fit::Best`, or at such an instance, may Memory come, and are glyphs read.
     #[tactic(auto, unfolding(crate::specs::Layouts::layout_outcome))]
     pub fn layout(&mut self, text: &str, margin: u32) -> Result<Layout, DrawFault>
         ensures exact { GivesUnless refusal (λ l. l) result (layout_outcome self.old.face (job_by self.old text.now margin)) }

@@ -25,9 +25,9 @@ pub enum Maker<'a> {
 }
 
 impl<'f, 'a> FitterSource<'f, 'a> {
-    /// The fitter, at the face's instance. Errors, the first of: those of loca and glyf; TableRange of the control values and the two programs;
-    /// those of running the two. Memory may come at any allocation. Not inline: only a strike's first line opens its
-    /// fitter, and the frame of each line would have room for the tables.
+    /// The fitter, at the face's instance. Errors, the first of: those of loca and glyf; TableRange of the control
+    /// values and the two programs; those of running the two. Memory may come at any allocation. Not inline: only a
+    /// strike's first line opens its fitter, and the frame of each line would have room for the tables.
     #[cold]
     #[inline(never)]
     #[tactic(auto, unfolding(crate::specs::Picture::setting))]

@@ -88,8 +88,8 @@ pub(crate) fn tested_edges(
 impl<'f, 'a> SizedFace<'f, 'a> {
     /// The line of a text laid out by the steps of its glyphs, which are made first; only where work is bounded. Errors,
     /// the first of: MarginRange, TextLong; those of loca and glyf, of the programs; WorkLarge of the points, and of
-    /// the deltas; those of the glyphs in the order of the text; EmptyPicture, PictureLarge; WorkLarge of the chords, and of the crossings.
-    /// Memory may come at any allocation.
+    /// the deltas; those of the glyphs in the order of the text; EmptyPicture, PictureLarge; WorkLarge of the chords,
+    /// and of the crossings. Memory may come at any allocation.
     fn make_by_steps(
         &mut self,
         text: &str,

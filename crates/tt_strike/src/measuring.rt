@@ -116,15 +116,14 @@ impl<'f, 'a> SizedFace<'f, 'a> {
         requires at { finds_advances self.now.face ≡ true → (at < length units.now) × (slice_index units.now at ≡ units_of self.now.face glyph) }
         ensures { result ≡ units_of self.now.face glyph }
     {
-        tt_advances::laws::tables_give_advances();
         if self.finds_advances() {
             return units[at];
         }
         self.face().metrics().advance(glyph)
     }
 
-    /// The pixels from the pen of glyph `at` to the next, with so many font units of kerning: by its own advance, or by that
-    /// of the face.
+    /// The pixels from the pen of glyph `at` to the next, with a kerning in font units: by its own advance, or by that of
+    /// the face.
     fn step_of(&self, glyph: &Glyph, at: usize, units: &[u16], kerning: i32) -> u32
         requires known { glyph.now.number < glyphs_of self.now.face.metrics }
         requires at { is_bounded self.now.fit ≡ false → finds_advances self.now.face ≡ true

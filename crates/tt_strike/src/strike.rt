@@ -89,10 +89,10 @@ impl<'f, 'a> Strike<'f, 'a> {
     /// write for this font and job. Errors, the first of: MarginRange, TextLong; EmptyPicture, PictureLarge; those of
     /// loca and glyf; those of the programs; those of the glyphs in the order of the text. With `Fit::Best` EmptyPicture
     /// and PictureLarge come after those of the glyphs. Before the glyphs comes WorkLarge of their points, and of their
-    /// deltas, and at the end WorkLarge of their chords and of their crossings. With any other fit, at an instance without
-    /// HVAR, those of loca and glyf and of the glyphs' advances come before EmptyPicture. Memory may come at any
-    /// allocation. A refused line too may change the cached glyphs.
-    /// `SizedFace::draw` is apart (for the prover): that function has the face and the cache one by one.
+    /// deltas, and at the end WorkLarge of their chords and of their crossings. With any other fit, at an instance
+    /// without HVAR, those of loca and glyf and of the glyphs' advances come before EmptyPicture. Memory may come at
+    /// any allocation. A refused line too may change the cached glyphs. `SizedFace::draw` is apart (for the prover):
+    /// that function has the face and the cache one by one.
     #[tactic(auto, unfolding(crate::specs::Report::report_by, crate::specs::Costs::cost_by))]
     pub fn line(&mut self, text: &str, margin: u32) -> Result<Picture, DrawFault>
         ensures exact { GivesUnless refusal image_of result (line_outcome self.old.face (job_of self.old text.now margin)) }

@@ -46,9 +46,9 @@ pub fn is_bounded(fit: Fit) -> bool
     }
 }
 
-/// Charges the points and the deltas of a line's distinct glyphs to its work, which is bounded, before a glyph is made. The
-/// cache has the points of cached glyphs. Headers state the deltas: there are none without an instance. Errors: WorkLarge,
-/// where points or deltas are too many; Memory.
+/// Charges the points and the deltas of a line's distinct glyphs to its work, which is bounded, before a glyph is made.
+/// The cache has the points of cached glyphs. Headers state the deltas: there are none without an instance. Errors:
+/// WorkLarge, where points or deltas are too many; Memory.
 #[tactic(auto, unfolding(crate::specs::Work::counts_tested, crate::specs::Work::work_tested))]
 pub fn charge_asked(
     fit: Fit,
@@ -123,7 +123,7 @@ fn points_left(
     Ok(Some(left))
 }
 
-/// What remains of `most` after the deltas of some glyphs; None where they have more. Error: out of memory.
+/// The rest of `most` after the deltas of some glyphs; None where they have more. Error: out of memory.
 fn glyph_deltas_left(fitter: &Fitter, glyphs: &[u16], most: u64) -> Result<Option<u64>, AllocError>
     requires known { All (λ g. g < fitter.now.tables.glyphs) glyphs.now }
     ensures { IfOk result (λ left. left ≡ left_of most (sum_by (deltas_asked fitter.now.instance fitter.now.tables fitter.now.levels) glyphs.now)) }
@@ -138,7 +138,7 @@ fn glyph_deltas_left(fitter: &Fitter, glyphs: &[u16], most: u64) -> Result<Optio
     Ok(Some(left))
 }
 
-/// What remains of `most` after the deltas of the control values and of some glyphs; None where they have more. Error: out
+/// The rest of `most` after the deltas of the control values and of some glyphs; None where they have more. Error: out
 /// of memory.
 fn deltas_left(fitter: &Fitter, glyphs: &[u16], most: u64) -> Result<Option<u64>, AllocError>
     requires known { All (λ g. g < fitter.now.tables.glyphs) glyphs.now }

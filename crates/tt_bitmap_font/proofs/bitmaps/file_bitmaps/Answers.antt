@@ -2,11 +2,10 @@ use Rattle.std.proofs.Common.{◌∙◌, ◌<◌}
 use Rattle.std.specs.Prelude.{All}
 use Rattle.std.proofs.lemmas.List.{length-map}
 use Rattle.std.proofs.lemmas.Result.{err_from_is_err_and}
-use Rattle.tt_core.specs.Faults.{Fault}
 use Rattle.tt_metrics.specs.Metrics.{glyphs_of}
 use Rattle.tt_bitmap_font.specs.Characters.{glyph_for, glyphs_for}
 use Rattle.tt_bitmap_font.specs.FontFiles.{IsGlyphsDefect}
-use Rattle.tt_bitmap_font.proofs.FileGlyphs.{file_to_list, same_glyphs}
+use Rattle.tt_bitmap_font.proofs.FileGlyphs.{file_sound, same_glyphs}
 use Rattle.tt_bitmap_font.proofs.Files.{bitmaps_made, characters_refuse, characters_tell, list_refuses, list_tells, size_refuses}
 use Rattle.tt_bitmap_font.proofs.bitmaps.file_bitmaps.Goals as goal
 
@@ -65,7 +64,8 @@ returns-clause-defects c =
     let known : All (λ g. g < glyphs_of face.metrics) (glyphs_for face.cmap cs) =
     rw (c.in_ok-glyphs.ensures.exact, c.cmap-2.ensures.glyphs, c.cmap-2.ensures.exact, c.deref-2.ensures.value) at c.in_ok-glyphs.ensures.known in
     let none = rw (c.deref-3.ensures.value, c.in_ok-glyphs.ensures.exact, c.cmap-2.ensures.exact, c.deref-2.ensures.value) at c.in_ok-list.ensures.defects in
-    λ (f : Fault) defect. none f (file_to_list a face cs f (same_glyphs a face cs are known) defect)
+    let made = rw (c.deref-3.ensures.value, c.in_ok-glyphs.ensures.exact, c.cmap-2.ensures.exact, c.deref-2.ensures.value) at c.in_ok-list.ensures.exact in
+    file_sound a face cs c.in_ok-list.list (same_glyphs a face cs are known) made none
 
 pub returns-clause-count : goal.returns-clause-count
 returns-clause-count c =

@@ -11,7 +11,7 @@ loop-code-preserved c =
     let so_far = map (λ p. (p.0.now, p.1.now)) c.loop-code.yielded in
     rw (
       c.in_ok-push.ensures.items,
-      c.character_by.ensures,
+      c.in_ok-character_by.ensures,
       c.loop-code.invariant,
       map-append {B = ℕ × GlyphEntry} (λ p. (p.0.now, p.1.now)) c.loop-code.yielded ((c.in-Some.code, c.in-Some.entry) ∷ []),
     )

@@ -8,7 +8,7 @@ use Rattle.tt_core.specs.Limits.{text_limit}
 use Rattle.tt_core.specs.Outcomes.{draw_fault_of_font}
 use Rattle.tt_label.specs.Gathered.{gathered, units_glyphs}
 use Rattle.tt_label.specs.Label.{label_glyphs}
-use Rattle.tt_label.proofs.ByAdvances.{found_fails}
+use Rattle.tt_advances.proofs.Finding.{before_value}
 use Rattle.tt_label.proofs.UnitsMade.{count_as_many, lines_as_short, rows_as_few, rows_found, shapes_make_units, shapes_stop_units, stopped_textless, unbounded_step, units_stop_units}
 use Rattle.tt_label.proofs.UnitGlyphs.{as_many_glyphs, at_zero, glyphs_have, its_units, text_has, zero_have, zero_numbers, zero_pens}
 use Rattle.tt_label_rows.specs.Units.{all_glyphs, stepped_lines, text_units}
@@ -83,7 +83,7 @@ returns-in_err-lines-clause-stops c =
     let fails = rw (c.deref.ensures.value, units_then all.In_ok-units) at c.in_err-lines.ensures.exact in
     let p = err_from_is_err_and c.from_residual-in_err-lines.result c.from_residual-in_err-lines.ensures.1 in
     rw (p.1, p.2, ← c.sized.view_is) (units_stop_units z.face a e unbounded
-    (found_fails (advances_tested z.face (units_glyphs z.face a)) _ e fails))
+    (before_value (advances_tested z.face (units_glyphs z.face a)) _ e fails))
 
 pub returns-in_err-lines-clause-defects : goal.returns-in_err-lines-clause-defects
 returns-in_err-lines-clause-defects c =

@@ -6,7 +6,8 @@ use Rattle.tt_core.specs.Limits.{text_limit}
 use Rattle.tt_label.specs.Label.{label_glyphs, label_placed}
 use Rattle.tt_label.specs.Views.{placements_of}
 use Rattle.tt_label.proofs.Joined.{all_flat, each_short}
-use Rattle.tt_label.proofs.ByAdvances.{found_fails, units_ready_label, units_stop_label}
+use Rattle.tt_label.proofs.ByAdvances.{units_ready_label, units_stop_label}
+use Rattle.tt_advances.proofs.Finding.{before_value}
 use Rattle.tt_label.proofs.ByStep.{size_tells_no_defect}
 use Rattle.tt_label.proofs.Placed.{laid_by, refused_as_job}
 use Rattle.tt_line.specs.declared.line.Line.{Line}
@@ -27,7 +28,7 @@ returns-in_err-steps-clause-exact c =
     let z = c.args.sized.now in
     let p = err_from_is_err_and c.from_residual.result c.from_residual.ensures.1 in
     rw (p.1, p.2) (units_stop_label z.face (job_by z c.args.text.now c.args.margin) c.args.align c.in_err-steps.field-0.0 c.requires.tested
-    c.requires.unbounded (found_fails (advances_tested z.face (label_glyphs z.face.cmap c.args.text.now)) _ c.in_err-steps.field-0.0 c.in_err-steps.ensures.exact))
+    c.requires.unbounded (before_value (advances_tested z.face (label_glyphs z.face.cmap c.args.text.now)) _ c.in_err-steps.field-0.0 c.in_err-steps.ensures.exact))
 
 pub returns-in_err-steps-clause-defects : goal.returns-in_err-steps-clause-defects
 returns-in_err-steps-clause-defects c =

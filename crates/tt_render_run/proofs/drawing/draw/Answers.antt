@@ -1,4 +1,6 @@
 use Rattle.std.proofs.lemmas.Result.{err_from_is_err_and}
+use Rattle.std.specs.Prelude.{option_map}
+use Rattle.tt_face.specs.Views.{asked_view}
 use Rattle.tt_strike.specs.Job.{job_view}
 use Rattle.tt_strike.specs.Picture.{pictured}
 use Rattle.tt_strike.specs.Report.{report_of}
@@ -18,7 +20,7 @@ returns-clause-report c =
 
 pub returns-clause-defects : goal.returns-clause-defects
 returns-clause-defects c =
-    no_defect c.args.job.now.opening (job_view c.args.job.now) c.args.file.now c.in_ok-face.face
+    no_defect c.args.job.now.opening (option_map asked_view c.args.instance) (job_view c.args.job.now) c.args.file.now c.in_ok-face.face
     c.in_ok-face.ensures.exact c.in_ok-face.ensures.sound (rw c.in_ok-strike.ensures.exact at c.in_ok-picture.ensures.defects)
 
 pub returns-in_err-strike-clause-exact : goal.returns-in_err-strike-clause-exact
@@ -40,7 +42,7 @@ returns-in_err-strike-clause-job c =
     let p = err_from_is_err_and c.from_residual-in_err-strike.result c.from_residual-in_err-strike.ensures.1 in
     let a = job_view c.args.job.now in
     let e = c.in_err-strike.field-0.0 in
-    rw (p.1, p.2) (refusal_tells c.args.job.now.opening a c.args.file.now c.in_ok-face.face e c.requires.asked c.in_ok-face.ensures.exact
+    rw (p.1, p.2) (refusal_tells c.args.job.now.opening (option_map asked_view c.args.instance) a c.args.file.now c.in_ok-face.face e c.requires.asked c.in_ok-face.ensures.exact
     (size_refuses a c.in_ok-face.face e c.in_err-strike.ensures.refused))
 
 pub returns-in_err-picture-clause-exact : goal.returns-in_err-picture-clause-exact
@@ -53,11 +55,11 @@ returns-in_err-picture-clause-exact c =
 pub returns-in_err-picture-clause-defects : goal.returns-in_err-picture-clause-defects
 returns-in_err-picture-clause-defects c =
     let p = err_from_is_err_and c.from_residual-in_err-picture.result c.from_residual-in_err-picture.ensures.1 in
-    rw (p.1, p.2) (defect_tells c.args.job.now.opening (job_view c.args.job.now) c.args.file.now c.in_ok-face.face
+    rw (p.1, p.2) (defect_tells c.args.job.now.opening (option_map asked_view c.args.instance) (job_view c.args.job.now) c.args.file.now c.in_ok-face.face
     c.in_err-picture.field-0.0 c.in_ok-face.ensures.exact (rw c.in_ok-strike.ensures.exact at c.in_err-picture.ensures.defects))
 
 pub returns-in_err-picture-clause-job : goal.returns-in_err-picture-clause-job
 returns-in_err-picture-clause-job c =
     let p = err_from_is_err_and c.from_residual-in_err-picture.result c.from_residual-in_err-picture.ensures.1 in
-    rw (p.1, p.2) (refusal_tells c.args.job.now.opening (job_view c.args.job.now) c.args.file.now c.in_ok-face.face
+    rw (p.1, p.2) (refusal_tells c.args.job.now.opening (option_map asked_view c.args.instance) (job_view c.args.job.now) c.args.file.now c.in_ok-face.face
     c.in_err-picture.field-0.0 c.requires.asked c.in_ok-face.ensures.exact (rw c.in_ok-strike.ensures.exact at c.in_err-picture.ensures.job))

@@ -5,6 +5,6 @@ use Rattle.tt_render_run.proofs.mapping.lines.Given as goal
 -- the lines of the units so far
 abbrev pub invariant-loop-unit : goal.invariant-loop-unit
 invariant-loop-unit l = record {
-  lines : l.lines.items ≡ flat_map (map_line l.fn.metrics l.fn.cmap) l.yielded;
-  same : l.known ≡ l.fn.cmap;
+  lines : l.lines.items ≡ flat_map (map_line l.fn.face) l.yielded;
+  same : l.known ≡ l.fn.face.cmap;
 }

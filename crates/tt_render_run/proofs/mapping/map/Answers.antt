@@ -1,32 +1,29 @@
-use Rattle.std.proofs.Common.{◌≡◌, ◌<◌, List, ℕ, length, take, Result, Ok, refl}
+use Rattle.std.proofs.Common.{◌≡◌, ◌<◌, List, ℕ, length, take, Option, Result, Ok, refl}
 use Rattle.std.proofs.lemmas.Result.{err_from_is_err_and}
 use Rattle.std.specs.Io.KnownBytes.{Appends}
 use Rattle.tt_core.specs.declared.collection.Reading.{Reading}
-use Rattle.tt_core.specs.Faults.{Fault}
-use Rattle.tt_face.specs.Files.{IsFaceDefectBy}
-use Rattle.tt_render_run.specs.MapLines.{lines_of, map_wanted}
+use Rattle.std.specs.Prelude.{option_map}
+use Rattle.tt_face.specs.Instance.{Asked}
+use Rattle.tt_face.specs.Views.{asked_view}
+use Rattle.tt_render_run.specs.MapLines.{IsMapDefect, lines_of, map_wanted}
 use Rattle.tt_strike.specs.Refusals.{Refused, as_font}
 use Rattle.tt_render_run.proofs.Answered.{reading_job, reading_large, reading_defects, lines_fail, lines_job, lines_large, lines_defects}
 use Rattle.tt_render_run.proofs.Calls.{IsRead, map_is_of_font, map_refused, job_fails, reading_fails, with_bytes, tells_of_known}
 use Rattle.tt_render_run.proofs.mapping.map.Goals as goal
 
 -- the lines of a text by a reading of a font
-abbrev made : Reading → List ℕ → List ℕ → Result (List ℕ) Refused
-made r text file = as_font (lines_of r file text)
-
--- a defect of a font for a reading
-abbrev defect : Reading → List ℕ → Fault → Type 0
-defect r file = IsFaceDefectBy file r
+abbrev made : Reading → Option Asked → List ℕ → List ℕ → Result (List ℕ) Refused
+made r i text file = as_font (lines_of r i file text)
 
 pub returns-in_err-test_text-clause-outcome : goal.returns-in_err-test_text-clause-outcome
 returns-in_err-test_text-clause-outcome g c =
     let text = c.args.text.now in
     let p = err_from_is_err_and c.from_residual.result c.from_residual.ensures.1 in
     let refused = c.in_err-test_text in
-    rw (p.1, p.2) (job_fails (map_wanted c.args.reading text) refused.field-0.0 (g.R.Source.left c.args.font.now)
+    rw (p.1, p.2) (job_fails (map_wanted c.args.reading (option_map asked_view c.args.instance) text) refused.field-0.0 (g.R.Source.left c.args.font.now)
     (g.W.Sink.written c.args.out.now) (g.R.Source.has_failed c.args.font.now)
     (g.W.Sink.has_failed c.args.out.now) refused.ensures.exact
-    (map_refused c.args.reading text refused.field-0.0 refused.ensures.exact) refused.ensures.first c.requires.font c.requires.out)
+    (map_refused c.args.reading (option_map asked_view c.args.instance) text refused.field-0.0 refused.ensures.exact) refused.ensures.first c.requires.font c.requires.out)
 
 pub returns-in_err-test_text-clause-text : goal.returns-in_err-test_text-clause-text
 returns-in_err-test_text-clause-text g c =
@@ -39,7 +36,7 @@ returns-in_err-file-clause-outcome g c =
     let left = g.R.Source.left in
     let text = c.args.text.now in
     let p = err_from_is_err_and c.from_residual-in_err-file.result c.from_residual-in_err-file.ensures.1 in
-    rw (p.1, p.2) (reading_fails (map_wanted c.args.reading text) (made c.args.reading text) (map_is_of_font c.args.reading text c.in_ok-test_text.ensures.exact)
+    rw (p.1, p.2) (reading_fails (map_wanted c.args.reading (option_map asked_view c.args.instance) text) (made c.args.reading (option_map asked_view c.args.instance) text) (map_is_of_font c.args.reading (option_map asked_view c.args.instance) text c.in_ok-test_text.ensures.exact)
     c.in_err-file.field-0.0 (left c.args.font.now) (left c.read_font.new.font) (g.W.Sink.written c.args.out.now)
     (g.R.Source.has_failed c.read_font.new.font) (g.W.Sink.has_failed c.args.out.now) c.in_err-file.ensures
     c.requires.out)
@@ -49,7 +46,7 @@ returns-in_err-file-clause-defects g c =
     let left = g.R.Source.left in
     let p = err_from_is_err_and c.from_residual-in_err-file.result c.from_residual-in_err-file.ensures.1 in
     rw (p.1, p.2) (reading_defects _ c.in_err-file.field-0.0 (left c.args.font.now) (left c.read_font.new.font)
-    (g.R.Source.has_failed c.read_font.new.font) (defect c.args.reading) c.in_err-file.ensures)
+    (g.R.Source.has_failed c.read_font.new.font) (IsMapDefect c.args.reading (option_map asked_view c.args.instance) c.args.text.now) c.in_err-file.ensures)
 
 pub returns-in_err-file-clause-text : goal.returns-in_err-file-clause-text
 returns-in_err-file-clause-text g c =
@@ -75,8 +72,8 @@ returns-in_err-lines-clause-outcome g c =
     let read : IsRead (left c.args.font.now) (left c.read_font.new.font) file.file.items
     (g.R.Source.has_failed c.read_font.new.font) (g.W.Sink.has_failed c.args.out.now) =
     record { taken = file.ensures.0; end = file.ensures.1; small = file.ensures.2; reader_serves = file.ensures.3; writer_serves = c.requires.out } in
-    rw (p.1, p.2) (lines_fail (map_wanted c.args.reading text) (λ file. lines_of c.args.reading file text)
-    (map_is_of_font c.args.reading text c.in_ok-test_text.ensures.exact) c.in_err-lines.field-0.0 (left c.args.font.now)
+    rw (p.1, p.2) (lines_fail (map_wanted c.args.reading (option_map asked_view c.args.instance) text) (λ file. lines_of c.args.reading (option_map asked_view c.args.instance) file text)
+    (map_is_of_font c.args.reading (option_map asked_view c.args.instance) text c.in_ok-test_text.ensures.exact) c.in_err-lines.field-0.0 (left c.args.font.now)
     (left c.read_font.new.font) (g.W.Sink.written c.args.out.now) file.file.items
     (g.R.Source.has_failed c.read_font.new.font) (g.W.Sink.has_failed c.args.out.now) read fails)
 
@@ -87,7 +84,7 @@ returns-in_err-lines-clause-defects g c =
     let p = err_from_is_err_and c.from_residual-in_err-lines.result c.from_residual-in_err-lines.ensures.1 in
     let tells = rw c.deref.ensures.value at c.in_err-lines.ensures.defects in
     rw (p.1, p.2) (lines_defects c.in_err-lines.field-0.0 (left c.args.font.now)
-    (left c.read_font.new.font) file.file.items (defect c.args.reading) file.ensures.0 file.ensures.1 tells)
+    (left c.read_font.new.font) file.file.items (IsMapDefect c.args.reading (option_map asked_view c.args.instance) c.args.text.now) file.ensures.0 file.ensures.1 tells)
 
 pub returns-in_err-lines-clause-text : goal.returns-in_err-lines-clause-text
 returns-in_err-lines-clause-text g c =
@@ -106,12 +103,12 @@ returns-in_err-write_all_of-clause-outcome g c =
     let left = g.R.Source.left in
     let written = g.W.Sink.written in
     let text = c.args.text.now in
-    let of_font = map_is_of_font c.args.reading text c.in_ok-test_text.ensures.exact in
+    let of_font = map_is_of_font c.args.reading (option_map asked_view c.args.instance) text c.in_ok-test_text.ensures.exact in
     let file = c.in_ok-file in
     let bytes = c.in_ok-lines.lines.items in
     let cut = c.in_err-write_all_of in
     let lines_are = rw c.deref.ensures.value at c.in_ok-lines.ensures.exact in
-    let is_made : made c.args.reading text file.file.items ≡ Ok bytes = rw lines_are refl in
+    let is_made : made c.args.reading (option_map asked_view c.args.instance) text file.file.items ≡ Ok bytes = rw lines_are refl in
     let within = rw c.deref-2.ensures.value at cut.ensures.within in
     let part = rw c.deref-2.ensures.value at cut.ensures.part in
     let Q : List ℕ → Type 0 = λ bs. (cut.field-0.0.sent < length bs) × Appends (written c.args.out.now)
@@ -119,7 +116,7 @@ returns-in_err-write_all_of-clause-outcome g c =
     let p = err_from_is_err_and c.from_residual-in_err-write_all_of.result c.from_residual-in_err-write_all_of.ensures.1
     in
     rw (p.1, p.2)
-    (of_font.tested, with_bytes (map_wanted c.args.reading text) (made c.args.reading text) of_font Q (left c.args.font.now) (left c.read_font.new.font) file.file.items bytes file.ensures.0 file.ensures.1 file.ensures.2 is_made (within, part), (file.ensures.1, file.ensures.3), cut.ensures.failure)
+    (of_font.tested, with_bytes (map_wanted c.args.reading (option_map asked_view c.args.instance) text) (made c.args.reading (option_map asked_view c.args.instance) text) of_font Q (left c.args.font.now) (left c.read_font.new.font) file.file.items bytes file.ensures.0 file.ensures.1 file.ensures.2 is_made (within, part), (file.ensures.1, file.ensures.3), cut.ensures.failure)
 
 pub returns-in_err-write_all_of-clause-defects : goal.returns-in_err-write_all_of-clause-defects
 returns-in_err-write_all_of-clause-defects g c =
@@ -128,7 +125,7 @@ returns-in_err-write_all_of-clause-defects g c =
     let p = err_from_is_err_and c.from_residual-in_err-write_all_of.result c.from_residual-in_err-write_all_of.ensures.1
     in
     let tells = rw c.deref.ensures.value at c.in_ok-lines.ensures.defects in
-    rw (p.1, p.2) (tells_of_known (defect c.args.reading) (left c.args.font.now) (left c.read_font.new.font) file.file.items _
+    rw (p.1, p.2) (tells_of_known (IsMapDefect c.args.reading (option_map asked_view c.args.instance) c.args.text.now) (left c.args.font.now) (left c.read_font.new.font) file.file.items _
     file.ensures.0 file.ensures.1 tells)
 
 pub returns-clause-outcome : goal.returns-clause-outcome
@@ -136,19 +133,19 @@ returns-clause-outcome g c =
     let left = g.R.Source.left in
     let written = g.W.Sink.written in
     let text = c.args.text.now in
-    let of_font = map_is_of_font c.args.reading text c.in_ok-test_text.ensures.exact in
+    let of_font = map_is_of_font c.args.reading (option_map asked_view c.args.instance) text c.in_ok-test_text.ensures.exact in
     let file = c.in_ok-file in
     let bytes = c.in_ok-lines.lines.items in
     let lines_are = rw c.deref.ensures.value at c.in_ok-lines.ensures.exact in
-    let is_made : made c.args.reading text file.file.items ≡ Ok bytes = rw lines_are refl in
+    let is_made : made c.args.reading (option_map asked_view c.args.instance) text file.file.items ≡ Ok bytes = rw lines_are refl in
     let all = rw c.deref-2.ensures.value at c.in_ok-write_all_of.ensures.all in
     let Q : List ℕ → Type 0 = Appends (written c.args.out.now) (written c.write_all_of.new.out) in
-    (of_font.tested, with_bytes (map_wanted c.args.reading text) (made c.args.reading text) of_font Q (left c.args.font.now) (left c.read_font.new.font) file.file.items bytes file.ensures.0 file.ensures.1 file.ensures.2 is_made all, (file.ensures.1, file.ensures.3), c.in_ok-write_all_of.ensures.failure)
+    (of_font.tested, with_bytes (map_wanted c.args.reading (option_map asked_view c.args.instance) text) (made c.args.reading (option_map asked_view c.args.instance) text) of_font Q (left c.args.font.now) (left c.read_font.new.font) file.file.items bytes file.ensures.0 file.ensures.1 file.ensures.2 is_made all, (file.ensures.1, file.ensures.3), c.in_ok-write_all_of.ensures.failure)
 
 pub returns-clause-defects : goal.returns-clause-defects
 returns-clause-defects g c =
     let left = g.R.Source.left in
     let file = c.in_ok-file in
     let tells = rw c.deref.ensures.value at c.in_ok-lines.ensures.defects in
-    tells_of_known {V = Unit {0}} (defect c.args.reading) (left c.args.font.now) (left c.read_font.new.font) file.file.items
+    tells_of_known {V = Unit {0}} (IsMapDefect c.args.reading (option_map asked_view c.args.instance) c.args.text.now) (left c.args.font.now) (left c.read_font.new.font) file.file.items
     (Ok tt) file.ensures.0 file.ensures.1 tells
