@@ -8,6 +8,7 @@ pub mod GlyphCosts
 pub mod Instances
 pub mod Levels
 pub mod MadeFor
+pub mod Places
 pub mod Placing
 pub mod Standing
 pub mod Unbounded

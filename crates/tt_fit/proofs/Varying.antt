@@ -18,7 +18,6 @@ use Rattle.tt_fit_variation.specs.Ends.{EndDeltas, are_ends, ends_in_units, is_e
 use Rattle.tt_fit_variation.specs.Fine.{fine_scaled}
 use Rattle.tt_fit_variation.specs.Moved.{InstancePoint, instance_point, instance_points, is_unit, moved_coordinate}
 use Rattle.tt_fit_variation.specs.Records.{moved_arguments, moved_record, moved_records}
-use Rattle.tt_fit_variation.specs.declared.varied_point.VariedPoint.{VariedPoint}
 use Rattle.tt_glyf.specs.Format.{args_are_xy_values, has}
 use Rattle.tt_glyf.specs.declared.raw.RawPoint.{RawPoint}
 use Rattle.tt_glyf.specs.declared.raw.Record.{Record}
@@ -100,26 +99,26 @@ coordinate-whole z at v moved was bad =
 abbrev OneLeaves : FontSize → Varied → Varied → Type 0
 OneLeaves z x y = IsCoordinateDefect z x ⊎ IsCoordinateDefect z y
 
-point-broke : (z : FontSize) (at : ℕ) (p : VariedPoint) (f : Fault) → instance_point z at p ≡ Err f
-    → OneLeaves z p.x p.y × (f ≡ coordinate_fault at)
+point-broke : (z : FontSize) (at : ℕ) (x y : Varied) (on : Bool) (f : Fault)
+    → instance_point z at (record { x = x; y = y; on = on }) ≡ Err f → OneLeaves z x y × (f ≡ coordinate_fault at)
 unfolding instance_point
-point-broke z at p f was = elim (was-err (moved_coordinate z at p.x) _ f was) [
-  | inl here ↦ let bad = coordinate-broke z at p.x f here in (inl bad.0, bad.1)
-  | inr later ↦ elim (was-err (moved_coordinate z at p.y) _ f later.rest) [
-    | inl here ↦ let bad = coordinate-broke z at p.y f here in (inr bad.0, bad.1)
+point-broke z at x y on f was = elim (was-err (moved_coordinate z at x) _ f was) [
+  | inl here ↦ let bad = coordinate-broke z at x f here in (inl bad.0, bad.1)
+  | inr later ↦ elim (was-err (moved_coordinate z at y) _ f later.rest) [
+    | inl here ↦ let bad = coordinate-broke z at y f here in (inr bad.0, bad.1)
     | inr whole ↦ let done = whole.rest in absurd cc
   ]
 ]
 
-point-whole : (z : FontSize) (at : ℕ) (p : VariedPoint) (made : InstancePoint) → instance_point z at p ≡ Ok made
-    → OneLeaves z p.x p.y → ⊥
+point-whole : (z : FontSize) (at : ℕ) (x y : Varied) (on : Bool) (made : InstancePoint)
+    → instance_point z at (record { x = x; y = y; on = on }) ≡ Ok made → OneLeaves z x y → ⊥
 unfolding instance_point
-point-whole z at p made was bad =
-    let of_x = came-through (moved_coordinate z at p.x) _ made was in
-    let of_y = came-through (moved_coordinate z at p.y) _ made of_x.rest in
+point-whole z at x y on made was bad =
+    let of_x = came-through (moved_coordinate z at x) _ made was in
+    let of_y = came-through (moved_coordinate z at y) _ made of_x.rest in
     elim bad [
-      | inl x ↦ coordinate-whole z at p.x of_x.value of_x.first x
-      | inr y ↦ coordinate-whole z at p.y of_y.value of_y.first y
+      | inl x_leaves ↦ coordinate-whole z at x of_x.value of_x.first x_leaves
+      | inr y_leaves ↦ coordinate-whole z at y of_y.value of_y.first y_leaves
     ]
 
 pub points-broke : (z : FontSize) (at : ℕ) (points : List RawPoint) (xs ys : List Varied) (f : Fault)
@@ -128,10 +127,9 @@ points-broke z at [] xs ys f was = absurd cc
 points-broke z at (p ∷ ps) [] ys f was = absurd cc
 points-broke z at (p ∷ ps) (x ∷ xs) [] f was = absurd cc
 points-broke z at (p ∷ ps) (x ∷ xs) (y ∷ ys) f was =
-    let here = record { x = x; y = y; on = p.on } in
-    elim (was-err (instance_point z at here) _ f was) [
+    elim (was-err (instance_point z at (record { x = x; y = y; on = p.on })) _ f was) [
       | inl first ↦
-          let bad = point-broke z at here f first in
+          let bad = point-broke z at x y p.on f first in
           (zero, p, x, y, refl, refl, refl, bad.0, bad.1)
       | inr later ↦ elim (was-err (instance_points z at ps xs ys) _ f later.rest) [
         | inl rest ↦
@@ -148,14 +146,12 @@ points-whole-at z at [] xs ys made i p x y was of_p of_x of_y bad = absurd cc
 points-whole-at z at (q ∷ ps) [] ys made i p x y was of_p of_x of_y bad = absurd cc
 points-whole-at z at (q ∷ ps) (v ∷ xs) [] made i p x y was of_p of_x of_y bad = absurd cc
 points-whole-at z at (q ∷ ps) (v ∷ xs) (w ∷ ys) made zero p x y was of_p of_x of_y bad =
-    let here = record { x = v; y = w; on = q.on } in
-    let first = came-through (instance_point z at here) _ made was in
+    let first = came-through (instance_point z at (record { x = v; y = w; on = q.on })) _ made was in
     let same_x : v ≡ x = cc in
     let same_y : w ≡ y = cc in
-    point-whole z at here first.value first.first (rw (same_x, same_y) bad)
+    point-whole z at v w q.on first.value first.first (rw (same_x, same_y) bad)
 points-whole-at z at (q ∷ ps) (v ∷ xs) (w ∷ ys) made (suc i) p x y was of_p of_x of_y bad =
-    let here = record { x = v; y = w; on = q.on } in
-    let first = came-through (instance_point z at here) _ made was in
+    let first = came-through (instance_point z at (record { x = v; y = w; on = q.on })) _ made was in
     let rest = came-through (instance_points z at ps xs ys) _ made first.rest in
     points-whole-at z at ps xs ys rest.value i p x y rest.first of_p of_x of_y bad
 

@@ -292,4 +292,3 @@ more_than_remains = refl
 
 not_bounded : work_less 40 None ≡ None
 not_bounded = refl
-

@@ -1,6 +1,6 @@
 -- Laws of the definitions. An outline has no defect, and a fault names one. A fit that falls back gives the outline of
 -- its programs alone, or the one without programs. The last laws give the dropout rules.
-use Rattle.std.specs.Prelude.{◌≡◌, ◌≢◌, ℕ, ◌≤◌, true, false, List, [], All, Option, Some, None, Result, Ok, Err, refl}
+use Rattle.std.specs.Prelude.{◌≡◌, ◌≢◌, ℕ, ◌≤◌, ◌==◌, true, false, List, [], length, All, Option, Some, None, Result, Ok, Err, refl}
 use Rattle.tt_core.specs.Directory.{HasNo}
 use Rattle.tt_core.specs.Faults.{Fault}
 use Rattle.tt_core.specs.Limits.{work_limit}
@@ -180,7 +180,7 @@ IsScaledBy scale p = (p.org_x ≡ scaled_by scale p.units_x) × (p.org_y ≡ sca
 
 abbrev pub OriginalsAreScaled : Type 0
 OriginalsAreScaled = (s : Fitter) (g : ℕ) (d : SimpleGlyph) (b : Begun) (grid : PhantomPoints)
-    → s.scaling ≡ scaling.Rounded → s.instance ≡ None → begun_glyph s g (simple d) ≡ Ok b
+    → s.scaling ≡ scaling.Rounded → s.instance ≡ None → (length d.code == 0) ≡ false → begun_glyph s g (simple d) ≡ Ok b
     → All (IsScaledBy (size_of s).scale) (glyph_zone b.program.units b.outline grid)
 
 -- With every fit but Best no program measures in font units, and halves round upwards

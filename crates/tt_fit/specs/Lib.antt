@@ -8,7 +8,6 @@ pub mod Fallback
 pub mod Fitting
 pub mod GlyphCost
 pub mod Hinted
-pub mod InstanceRows
 pub mod Laws
 pub mod Preparation
 pub mod Refusals

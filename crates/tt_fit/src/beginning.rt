@@ -102,11 +102,7 @@ impl<'a> Fitter<'a> {
 
     /// The places of a simple glyph's points, where its program measures originals in font units.
     #[inline(always)]
-    pub(crate) fn own_units(
-        &self,
-        points: Vec<RawPoint>,
-        phantom: PhantomUnits,
-    ) -> Option<OwnUnits>
+    pub(crate) fn own_units(&self, points: Vec<RawPoint>, phantom: PhantomUnits) -> Option<OwnUnits>
         ensures { option_map own_units_view result ≡ units_by self.now.scaling points.items (phantom_units_view phantom) }
     {
         match self.scaling {
@@ -132,12 +128,7 @@ impl<'a> Fitter<'a> {
     }
 
     /// A glyph without points, components and a program.
-    pub(crate) fn empty_begun(
-        &self,
-        hinting: &Hinting<'a>,
-        g: u16,
-        outline: Outline,
-    ) -> Begun<'a>
+    pub(crate) fn empty_begun(&self, hinting: &Hinting<'a>, g: u16, outline: Outline) -> Begun<'a>
         requires { g < self.now.tables.glyphs }
         ensures exact { begun_view result ≡ empty_begun (with_hinting self.now (hinting_view hinting.now)) g (outline_of outline) }
         ensures records { result.records.items ≡ [] }

@@ -80,7 +80,9 @@ pub(crate) fn instance_control_values(
 {
     let words = control_words(alloc, cvt)?;
     let coordinates = instance.coordinates();
-    let varied = instance.gvar().control_value_deltas(alloc, cvar, coordinates, &words)?;
+    let varied = instance
+        .gvar()
+        .control_value_deltas(alloc, cvar, coordinates, &words)?;
     let mut values = Vec::with_capacity(alloc, varied.len())?;
     for i in 0..varied.len() {
         values.push(pixels(scale, varied[i]))?;

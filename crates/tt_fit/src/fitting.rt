@@ -154,17 +154,17 @@ impl<'a> Fitter<'a> {
 
     /// The work of a glyph's deltas at the instance, counted from headers before the glyph is made; 0 by the font's
     /// default. A component counts each time it is used. None where it is more than `most`. Error: out of memory.
+    #[tactic(auto, unfolding(crate::specs::DeltaCounting::deltas_asked))]
     pub fn deltas(&self, g: u16, most: u64) -> Result<Option<u64>, AllocError>
         requires { g < self.now.tables.glyphs }
         ensures exact { IfOk result (λ n. n ≡ counted most (deltas_asked self.now.instance self.now.tables self.now.levels g)) }
     {
-        let left = match self.instance() {
-            Some(instance) => self.deltas_left(instance, g, most)?,
-            None => Some(most),
-        };
-        match left {
-            Some(left) => Ok(Some(most - left)),
-            None => Ok(None),
+        match self.instance() {
+            None => Ok(Some(0)),
+            Some(instance) => match self.deltas_left(instance, g, most)? {
+                Some(left) => Ok(Some(most - left)),
+                None => Ok(None),
+            },
         }
     }
 

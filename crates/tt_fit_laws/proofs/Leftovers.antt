@@ -1,5 +1,5 @@
 -- Without programs no glyph is unfitted: all faults are those of the font's tables.
-use Rattle.std.proofs.Common.{◌≡◌, ◌∙◌, sym, ap, subst, ℕ, zero, suc, ◌-◌, ℤ, unsigned_abs, Bool, false, List, length, Option, Some, None, Result, Ok, Err, inl, inr, refl}
+use Rattle.std.proofs.Common.{◌≡◌, ◌∙◌, sym, ap, subst, ℕ, zero, suc, ◌-◌, ℤ, pos, unsigned_abs, Bool, false, List, length, Option, Some, None, Result, Ok, Err, inl, inr, refl}
 use Rattle.std.specs.Prelude.{IsOkAnd}
 use Rattle.std.specs.List.{slice_get}
 use Rattle.tt_core.specs.Faults.{Fault, why_number}
@@ -19,9 +19,10 @@ use Rattle.tt_glyf.specs.Raw.{Raw, empty, simple, composite}
 use Rattle.tt_glyf.specs.declared.raw.Record.{Record}
 use Rattle.tt_metrics.specs.Metrics.{Metrics}
 use Rattle.tt_fit.specs.declared.programs.Fit.TheVariants as fit
-use Rattle.tt_fit.specs.Defects.{LeavesLimit, IsEndsDefect, IsHintingDefect, IsPlacingDefect, IsMakingDefect, IsDefectBy, IsBadComponent, IsDefectAt, IsOutlineDefect}
+use Rattle.tt_deltas.specs.Glyphs.{VariedPoints}
+use Rattle.tt_fit.specs.Defects.{LeavesLimit, IsStartDefect, IsEndsDefect, IsHintingDefect, IsPlacingDefect, IsSimpleStartDefect, IsDefaultDefect, IsWholeStartDefect, IsVariedDefect, IsBegunDefectBy, IsFinishingDefect, IsMakingDefect, IsDefectBy, IsBadComponent, IsDefectAt, IsOutlineDefect}
 use Rattle.tt_fit.specs.Fallback.{where_refused, hinting_for, is_program_fault}
-use Rattle.tt_fit.specs.Fitting.{Fitter, with_hinting, size_of, start, glyph_grid, simple_start, simple_program, composite_program, joined, added, outline_at, glyph_fitter, unfitted_fault}
+use Rattle.tt_fit.specs.Fitting.{Begun, Fitter, with_hinting, size_of, start, glyph_grid, joined, default_phantom, units_at, fine_phantom, begun_glyph, added, outline_at, glyph_fitter, unfitted_fault}
 use Rattle.tt_fit.specs.Hinted.{LeftoversFit}
 use Rattle.tt_fit.specs.Laws.{AreEmpty, HasWork}
 use Rattle.tt_fit.specs.Preparation.{within_work, left_at, work_at, prepared, fitter_of}
@@ -29,8 +30,10 @@ use Rattle.tt_fit_outline.specs.declared.grid.Grid.{Grid}
 use Rattle.tt_fit_outline.specs.Component.{shift_of, landed}
 use Rattle.tt_fit_hinting.specs.GlyphZone.{GlyphProgram}
 use Rattle.tt_fit_hinting.specs.Hinting.{Hinting, off}
-use Rattle.tt_fit_outline.specs.Outline.{Outline}
-use Rattle.tt_fit_outline.specs.Scaling.{glyf_fault, coordinate_fault, scaled_outline}
+use Rattle.tt_fit_outline.specs.Outline.{Outline, PhantomPoints}
+use Rattle.tt_fit_outline.specs.Scaling.{glyf_fault, coordinate_fault, scaled_phantom}
+use Rattle.tt_fit_variation.specs.Advance.{deltas_of}
+use Rattle.tt_fit_laws.proofs.Breaking.{deltas-break}
 use Rattle.tt_fit.proofs.Falling.{fitted-where-made, never-unfitted, made-fitted}
 use Rattle.tt_fit_laws.proofs.FallingBack.{fitted-where-short}
 use Rattle.tt_fit_laws.proofs.Hinted.{left-where-empty, off-where-empty}
@@ -140,26 +143,61 @@ OnlyTables IsOne = (r : Record) (before : Result Outline Fault) (f : Fault) → 
 abbrev unhinted : Fitter → Fitter
 unhinted s = with_hinting s off
 
+-- a glyph that is begun
+bad-why : (f : Fault) → f.why ≡ why.GlyphVariation → IsTables f
+unfolding is_program_fault why_number
+bad-why f is = rw is refl
+
+bad-simple-start : (s : Fitter) (phantom : PhantomPoints) (g : ℕ) (code : List ℕ) (f : Fault)
+    → IsSimpleStartDefect s phantom g code f → IsTables f
+bad-simple-start s phantom g code f (inl of_start) = bad-start (glyph_offset s.tables g) f of_start.1
+bad-simple-start s phantom g code f (inr ends) =
+    let by = glyph_grid s in
+    let at = glyph_offset s.tables g in
+    within (start s phantom g) (λ o. IsEndsDefect by at code o f) f (λ o bad. bad-ends by at code o f bad) ends
+
+bad-default : (s : Fitter) (g : ℕ) (d : Raw) (f : Fault) → IsDefaultDefect s g d f → IsTables f
+bad-default s g empty f bad = bad-start (glyph_offset s.tables g) f bad.1
+bad-default s g (simple d) f (inl of_start) = bad-simple-start s (default_phantom s d.x_min g) g d.code f of_start
+bad-default s g (simple d) f (inr point) = bad-start (glyph_offset s.tables g) f point.4
+bad-default s g (composite d) f bad = bad-start (glyph_offset s.tables g) f bad.1
+
+bad-whole-start : (s : Fitter) (x_min : ℤ) (g n : ℕ) (v : VariedPoints) (f : Fault)
+    → IsWholeStartDefect s x_min g n v f → IsTables f
+bad-whole-start s x_min g n v f (inl of_units) = bad-start (glyph_offset s.tables g) f of_units.1
+bad-whole-start s x_min g n v f (inr of_start) =
+    within (units_at s x_min g n v) (λ units. IsStartDefect s (scaled_phantom (size_of s) units) g f) f
+    (λ units bad. bad-start (glyph_offset s.tables g) f bad.1) of_start
+
+bad-varied : (s : Fitter) (g : ℕ) (d : Raw) (v : VariedPoints) (f : Fault) → IsVariedDefect s g d v f → IsTables f
+bad-varied s g empty v f bad = bad-whole-start s (pos 0) g 0 v f bad
+bad-varied s g (simple d) v f (inl of_units) = bad-start (glyph_offset s.tables g) f of_units.1
+bad-varied s g (simple d) v f (inr (inl of_start)) = bad-simple-start s (fine_phantom s g d v) g d.code f of_start
+bad-varied s g (simple d) v f (inr (inr point)) = bad-start (glyph_offset s.tables g) f point.8
+bad-varied s g (composite d) v f (inl of_start) = bad-whole-start s d.x_min g (length d.records) v f of_start
+bad-varied s g (composite d) v f (inr offset) = let one = offset.7 in bad-start (offset.1.at) f one.2
+
+bad-begun : (instance : Option FaceInstance) (s : Fitter) (g : ℕ) (d : Raw) (f : Fault)
+    → IsBegunDefectBy instance s g d f → IsTables f
+bad-begun None s g d f bad = bad-default s g d f bad
+bad-begun (Some i) s g d f (inl unread) = bad-why f (deltas-break i.gvar i.coordinates g d f unread)
+bad-begun (Some i) s g d f (inr varied) =
+    within (deltas_of i.gvar i.coordinates g d) (λ v. IsVariedDefect s g d v f) f
+    (λ v bad. bad-varied s g d v f bad) varied
+
+bad-finishing : (s : Fitter) (IsOne : Record → Result Outline Fault → Fault → Type 0) → OnlyTables IsOne
+    → (add : Record → Outline → Result Outline Fault) (b : Begun) (f : Fault)
+    → IsFinishingDefect (unhinted s) add IsOne b f → IsTables f
+bad-finishing s IsOne only add b f (inl one) = only one.1 _ f one.3
+bad-finishing s IsOne only add b f (inr program) = no-program b.program f (joined add b.records b.outline) program
+
 bad-making : (s : Fitter) (IsOne : Record → Result Outline Fault → Fault → Type 0) → OnlyTables IsOne
     → (add : Record → Outline → Result Outline Fault) (g : ℕ) (d : Raw) (f : Fault)
     → IsMakingDefect (unhinted s) add IsOne g d f → IsTables f
-bad-making s IsOne only add g empty f bad = bad-start (glyph_offset s.tables g) f bad.1
-bad-making s IsOne only add g (simple d) f (inl of_start) = bad-start (glyph_offset s.tables g) f of_start.1
-bad-making s IsOne only add g (simple d) f (inr (inl ends)) =
-    let by = glyph_grid (unhinted s) in
-    let at = glyph_offset s.tables g in
-    within (start s d.x_min g) (λ o. IsEndsDefect by at d.code o f) f (λ o bad. bad-ends by at d.code o f bad) ends
-bad-making s IsOne only add g (simple d) f (inr (inr (inl point))) =
-    bad-start (glyph_offset s.tables g) f point.4
-bad-making s IsOne only add g (simple d) f (inr (inr (inr program))) =
-    let t = unhinted s in
-    no-program (simple_program t g d) f
-    (simple_start t d.x_min g d.code >>= scaled_outline (size_of t) (glyph_offset t.tables g) d.points d.ends) program
-bad-making s IsOne only add g (composite d) f (inl of_start) = bad-start (glyph_offset s.tables g) f of_start.1
-bad-making s IsOne only add g (composite d) f (inr (inl one)) = only one.1 _ f one.3
-bad-making s IsOne only add g (composite d) f (inr (inr program)) =
-    let t = unhinted s in
-    no-program (composite_program t g d) f (start t d.x_min g >>= joined add d.records) program
+bad-making s IsOne only add g d f (inl first) = bad-begun s.instance (unhinted s) g d f first
+bad-making s IsOne only add g d f (inr later) =
+    within (begun_glyph (unhinted s) g d) (λ b. IsFinishingDefect (unhinted s) add IsOne b f) f
+    (λ b bad. bad-finishing s IsOne only add b f bad) later
 
 bad-by : (s : Fitter) (IsOne : Record → Result Outline Fault → Fault → Type 0) → OnlyTables IsOne
     → (add : Record → Outline → Result Outline Fault) (g : ℕ) (f : Fault)

@@ -7,3 +7,5 @@ mod Leftovers
 mod Originals
 mod Plain
 mod FallingBack
+mod Breaking
+mod Unvaried

@@ -1,13 +1,15 @@
 -- The unit of a simple glyph program's originals.
-use Rattle.std.proofs.Common.{◌≡◌, ◌≢◌, ◌∙◌, sym, ap, subst, ℕ, ◌*◌, ℤ, pos, Bool, true, List, [], ◌∷◌, map, All, Result, Ok, refl, arith}
+use Rattle.std.proofs.Common.{◌≡◌, ◌≢◌, ◌∙◌, sym, ap, subst, ℕ, ◌*◌, ◌==◌, ℤ, pos, Bool, true, false, if◌then◌else◌, List, [], ◌∷◌, length, map, All, Option, Some, None, Result, Ok, refl, arith}
 use Rattle.std.specs.Prelude.{◌&&◌}
 use Rattle.std.proofs.lemmas.List.Elements.{All-nil, All-cons, All-append}
 use Rattle.tt_core.specs.Chains.{came-through, passed-else}
 use Rattle.tt_core.specs.Faults.{Fault}
-use Rattle.tt_core.specs.Outcomes.{each}
+use Rattle.tt_core.specs.Outcomes.{◌>>=◌, each}
+use Rattle.tt_deltas.specs.Glyphs.{VariedPoints}
 use Rattle.tt_core.specs.Scales.{factor, rounded_scale, scaled_by}
 use Rattle.tt_core.specs.declared.halves.Halves.TheVariants as halves
 use Rattle.tt_glyf.specs.Loca.{Glyf, glyph_offset}
+use Rattle.tt_glyf.specs.Raw.{Raw, SimpleGlyph, empty, simple, composite}
 use Rattle.tt_glyf.specs.declared.raw.RawPoint.{RawPoint}
 use Rattle.tt_metrics.specs.Metrics.{Metrics, units_per_em_of}
 use Rattle.tt_state.specs.declared.point.Point.{Point}
@@ -15,7 +17,7 @@ use Rattle.tt_fit.specs.declared.programs.Fit.{Fit}
 use Rattle.tt_fit.specs.declared.programs.Fit.TheVariants as fit
 use Rattle.tt_fit_outline.specs.declared.rules.Scaling.{Scaling}
 use Rattle.tt_fit_outline.specs.declared.rules.Scaling.TheVariants as scaling
-use Rattle.tt_fit.specs.Fitting.{Fitter, size_of, start}
+use Rattle.tt_fit.specs.Fitting.{Begun, Fitter, size_of, start, simple_start, empty_begun, simple_begun, composite_begun, default_phantom, default_units, begun_by_default, whole_start, fine_start, begun_varied, begun_by, begun_glyph}
 use Rattle.tt_fit_hinting.specs.GlyphZone.{untouched, outline_point, phantom_zone, glyph_zone}
 use Rattle.tt_fit.specs.Laws.{IsScaledBy, OriginalsAreScaled, OthersMeasureInPixels}
 use Rattle.tt_fit_outline.specs.Outline.{Outline, PhantomPoints}
@@ -23,7 +25,10 @@ use Rattle.tt_face.specs.Faces.{FaceInstance}
 use Rattle.tt_face.specs.Programs.{ProgramTables}
 use Rattle.tt_fit.specs.Preparation.{prepared, fitter_of}
 use Rattle.tt_fit.specs.Rules.{rules_of}
-use Rattle.tt_fit_outline.specs.Scaling.{settled, is_coordinate, are_positions, scaled_position, scaled_point, phantom_units, phantom_points, blank, scaled_outline}
+use Rattle.tt_fit_outline.specs.Scaling.{settled, is_coordinate, are_positions, scaled_position, scaled_point, phantom_units, phantom_points, blank, scaled_outline, outline_in_place}
+use Rattle.tt_fit_variation.specs.Advance.{deltas_of}
+use Rattle.tt_fit_variation.specs.Moved.{instance_places, instance_points, instance_units}
+use Rattle.tt_fit_variation.specs.Records.{moved_records}
 use Rattle.tt_fit_outline.specs.Size.{FontSize, size_by}
 use Rattle.tt_fit_outline.specs.Units.{in_units, units_by, with_units}
 
@@ -103,17 +108,36 @@ zone-scaled how ppem em z at m x_min g ds o grid rounded by are =
     (All-append (IsScaledBy z.scale) (in_units ds (map outline_point o.points)) _ are.points
     (phantom-scaled ppem em z m x_min g o.phantom grid by are.phantom))
 
+-- a simple glyph with a program, by the font's default
+begun-none : (s : Fitter) (g : ℕ) (d : Raw) (b : Begun) → s.instance ≡ None → begun_glyph s g d ≡ Ok b
+    → begun_by_default s g d ≡ Ok b
+unfolding begun_glyph
+begun-none s g d b none was = rw none at was
+
+not-bare : (s : Fitter) (phantom : PhantomPoints) (g : ℕ) (code : List ℕ) (o : Outline) → (length code == 0) ≡ false
+    → simple_start s phantom g code ≡ Ok o → start s phantom g ≡ Ok o
+unfolding simple_start
+not-bare s phantom g code o some was =
+    let first = came-through (start s phantom g) _ o was in
+    let same : ◌≡◌ {A = Result Outline Fault} (Ok first.value) (Ok o) = rw some at first.rest in
+    first.first ∙ same
+
 pub originals-are-scaled : OriginalsAreScaled
-originals-are-scaled s g d o grid rounded was =
+originals-are-scaled s g d b grid rounded none some was =
     let z = size_of s in
     let em = units_per_em_of s.metrics in
     let at = glyph_offset s.tables g in
-    let begun = came-through (start s d.x_min g) _ o was in
-    let from = phantom-begun at (phantom_points z s.metrics d.x_min g) begun.value begun.first in
-    let are = outline-placed z at d.points d.ends begun.value o begun.rest in
-    zone-scaled s.scaling s.ppem em z at s.metrics d.x_min g d.points o grid rounded
+    let phantom = default_phantom s d.x_min g in
+    let by_default = begun-none s g (simple d) b none was in
+    let begun = came-through (simple_start s phantom g d.code) _ b by_default in
+    let scaled = came-through (scaled_outline z at d.points d.ends begun.value) _ b begun.rest in
+    let same : simple_begun s g d d.points (default_units s d.x_min g) scaled.value ≡ b = let done = scaled.rest in cc in
+    let from = phantom-begun at phantom begun.value (not-bare s phantom g d.code begun.value some begun.first) in
+    let are = outline-placed z at d.points d.ends begun.value scaled.value scaled.first in
+    rw (← same)
+    (zone-scaled s.scaling s.ppem em z at s.metrics d.x_min g d.points scaled.value grid rounded
     (ap (λ how. (size_by how s.ppem em).scale) rounded)
-    (subst (λ phantom. ArePlaced z d.points phantom o) (sym from) are)
+    (subst (λ was. ArePlaced z d.points was scaled.value) (sym from) are))
 
 -- with every fit but Best
 in-pixels : (how : Fit) → how ≢ fit.Best → (rules_of how).scaling ≡ scaling.Exact
@@ -132,10 +156,59 @@ unfolding fitter_of
 scales m tables programs instance ppem how s is =
     let by_programs = came-through (prepared m programs instance ppem how) _ s is in scaling-of _ s by_programs.rest
 
+-- no glyph's program measures in font units
+abbrev HasNoUnits : Result Begun Fault → Type 0
+HasNoUnits x = (b : Begun) → x ≡ Ok b → b.program.units ≡ None
+
+no-units : {X : Type 0} (x : Result X Fault) (k : X → Result Begun Fault) → ((y : X) → HasNoUnits (k y))
+    → HasNoUnits (x >>= k)
+no-units x k each b was = let first = came-through x k b was in each first.value b first.rest
+
+no-units-of : (c : Begun) → c.program.units ≡ None → HasNoUnits (Ok c)
+no-units-of c none b was = let same : c ≡ b = cc in rw (← same) none
+
+simple-has-none : (s : Fitter) (g : ℕ) (d : SimpleGlyph) (points : List RawPoint) (phantom : PhantomPoints)
+    (o : Outline) → s.scaling ≡ scaling.Exact → HasNoUnits (Ok (simple_begun s g d points phantom o))
+simple-has-none s g d points phantom o exact =
+    no-units-of (simple_begun s g d points phantom o) (ap (λ way. units_by way points phantom) exact)
+
+default-has-none : (s : Fitter) (g : ℕ) (d : Raw) → s.scaling ≡ scaling.Exact → HasNoUnits (begun_by_default s g d)
+default-has-none s g empty exact =
+    no-units (start s (default_phantom s (pos 0) g) g) _ (λ o. no-units-of (empty_begun s g o) refl)
+default-has-none s g (simple d) exact =
+    no-units (simple_start s (default_phantom s d.x_min g) g d.code) _
+    (λ o. no-units (scaled_outline (size_of s) (glyph_offset s.tables g) d.points d.ends o) _
+    (λ all. simple-has-none s g d d.points (default_units s d.x_min g) all exact))
+default-has-none s g (composite d) exact =
+    no-units (start s (default_phantom s d.x_min g) g) _
+    (λ o. no-units-of (composite_begun s g d.code d.code_at d.records o) refl)
+
+varied-has-none : (s : Fitter) (g : ℕ) (d : Raw) (v : VariedPoints) → s.scaling ≡ scaling.Exact
+    → HasNoUnits (begun_varied s g d v)
+varied-has-none s g empty v exact =
+    no-units (whole_start s (pos 0) g 0 v) _ (λ o. no-units-of (empty_begun s g o) refl)
+varied-has-none s g (simple d) v exact =
+    no-units (fine_start s g d v) _
+    (λ b. no-units (instance_points (size_of s) (glyph_offset s.tables g) d.points v.xs v.ys) _
+    (λ ps. simple-has-none s g d (instance_units ps) b.units (outline_in_place (instance_places ps) d.ends b.outline)
+    exact))
+varied-has-none s g (composite d) v exact =
+    no-units (whole_start s d.x_min g (length d.records) v) _
+    (λ o. no-units (moved_records d.records v.xs v.ys) _
+    (λ records. no-units-of (composite_begun s g d.code d.code_at records o) refl))
+
+has-none-by : (instance : Option FaceInstance) (s : Fitter) (g : ℕ) (d : Raw) → s.scaling ≡ scaling.Exact
+    → HasNoUnits (begun_by instance s g d)
+has-none-by None s g d exact = default-has-none s g d exact
+has-none-by (Some i) s g d exact =
+    no-units (deltas_of i.gvar i.coordinates g d) (begun_varied s g d) (λ v. varied-has-none s g d v exact)
+
+has-none : (s : Fitter) (g : ℕ) (d : Raw) → s.scaling ≡ scaling.Exact → HasNoUnits (begun_glyph s g d)
+unfolding begun_glyph
+has-none s g d exact = has-none-by s.instance s g d exact
+
 pub others-measure-in-pixels : OthersMeasureInPixels
-others-measure-in-pixels m tables programs instance ppem how s g d other is =
+others-measure-in-pixels m tables programs instance ppem how s other is =
     let exact = scales m tables programs instance ppem how s is ∙ in-pixels how other in
-    let em = units_per_em_of s.metrics in (
-      ap (λ way. units_by way d.points (phantom_units s.metrics d.x_min g)) exact,
-      ap (λ way. (size_by way s.ppem em).scale.halves) exact,
-    )
+    let em = units_per_em_of s.metrics in
+    (λ g raw b was. has-none s g raw exact b was, ap (λ way. (size_by way s.ppem em).scale.halves) exact)

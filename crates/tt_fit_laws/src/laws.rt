@@ -2,11 +2,18 @@
 
 ghost use Rattle.tt_fit.specs.Laws.{FallbackFits, FallbackScales, FallbackRefuses, FallbackUnfitsAll, OthersNeverFallBack, FullIsByPrograms, NoneIsWithoutPrograms, BestIsBounded, WorkFalls, OriginalsAreScaled, OthersMeasureInPixels, OthersFillNone, RulesStay, UnfittedByTypeOne, EmptyByTypeOne, SkippedByTypeOne, FittedByScan, OffFillsNone, OtherTypesFillNone};
 ghost use Rattle.tt_fit.specs.Counting.{OutlinesAreCounted};
+ghost use Rattle.tt_fit.specs.Default.{DefaultsAreUnvaried, DefaultsCostTheSame};
 ghost use Rattle.tt_fit.specs.Hinted.{BestRoundsWhereHinted, OthersRoundAlways, EmptyIsOff, LeftoversFit, SwitchedIsOff, UnfittedIsOff, OffIsPlain, EndsAreWhole, SimpleStepsAreWhole};
 
 /// Lemma: an outline has at most as many points and contours as `Fitter::points` counts.
 pub fn outlines_are_counted()
     ensures { OutlinesAreCounted }
+{}
+
+/// Lemma: where a fitter has no instance, each glyph has the outline, the fault and the work of the font's default.
+pub fn defaults_are_unvaried()
+    ensures outlines { DefaultsAreUnvaried }
+    ensures work { DefaultsCostTheSame }
 {}
 
 /// Lemma: with enough work, `Fit::Fallback` and `Fit::Best` give the outline by the programs alone. After a program's
@@ -29,8 +36,8 @@ pub fn work_falls()
     ensures falls { WorkFalls }
 {}
 
-/// Lemma: with `Fit::Best` a simple glyph's program measures originals that are its points in font units, scaled. With
-/// every other fit no program measures in font units, and halves round upwards.
+/// Lemma: with `Fit::Best` and by the font's default, a simple glyph's program measures originals that are its points in
+/// font units, scaled. With every other fit no program measures in font units, and halves round upwards.
 pub fn originals_are_scaled()
     ensures scaled { OriginalsAreScaled }
     ensures others { OthersMeasureInPixels }

@@ -48,4 +48,3 @@ added-returns-clause-exact t c =
     let placed = rw (c.glyph_grid-grid.ensures, c.size.ensures) at c.in_ok-placed.ensures.exact in
     rw (one_level_done s c.args.levels c.args.part (outline_of c.args.so_far)
     (outline_of c.in_ok-component.component) some c.in_ok-component.ensures.exact) placed
-

@@ -1,0 +1,2 @@
+pub mod ControlRows
+pub mod InstanceRows
