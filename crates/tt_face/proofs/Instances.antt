@@ -111,3 +111,10 @@ opened-whole file o asked face given sound whole = λ fault. λ defect. elim def
   | inr lacks ↦ let P : Result Face Fault → Type 0 = λ r. IsOkAnd r (λ f. LacksInstance f asked fault) in
       whole fault (subst P given lacks)
 ]
+
+pub zero-lacks-none : (d : Directory) (c : List ℤ) → are_zero c ≡ true → HasNo (IsVariationDefect d c)
+zero-lacks-none d c zero = λ fault. λ defect. let other = defect.0 in absurd cc
+
+pub gvar-whole : (d : Directory) (c : List ℤ) (axes : ℕ) → axes ≡ length c → HasNo (IsDefectIn d gvar_tag (IsShapeDefect axes))
+    → HasNo (IsVariationDefect d c)
+gvar-whole d c axes is whole = λ fault. λ defect. (rw is at whole) fault defect.1

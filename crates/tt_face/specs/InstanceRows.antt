@@ -1,11 +1,12 @@
 -- Worked values: whole fonts at an instance. Each is built by hand, and FreeType 2.12.1 was asked for the same places.
-use Rattle.std.specs.Prelude.{◌≡◌, refl, ℕ, List, [], ◌∷◌, codes, Option, Some, None, Result, Ok, Err, ℤ, pos, negsuc}
+use Rattle.std.specs.Prelude.{◌≡◌, refl, ℕ, ◌+◌, Bool, true, false, List, [], ◌∷◌, ◌++◌, length, take, drop, map, option_map, codes, Option, Some, None, Result, Ok, Err, ℤ, pos, negsuc}
+use Rattle.std.specs.List.{range_with_len}
 use Rattle.tt_axes.specs.Avar.{all_mapped, avar_of, is_avar, mapped}
 use Rattle.tt_axes.specs.Axes.{axis_of, coordinate_on}
 use Rattle.tt_axes.specs.declared.values.AxisValue.{AxisValue}
-use Rattle.tt_axes.specs.Fvar.{fvar_in, fvar_of}
+use Rattle.tt_axes.specs.Fvar.{fvar_in, fvar_of, fvar_tag}
 use Rattle.tt_axes.specs.InstanceCoordinates.{coordinates_of}
-use Rattle.tt_axes.specs.Instances.{coordinates_in, no_axis, no_instance, weight}
+use Rattle.tt_axes.specs.Instances.{coordinates_in, named_instance, no_axis, no_instance, weight}
 use Rattle.tt_axes.specs.Shares.{share_of_region_axis}
 use Rattle.tt_cmap.specs.Format4.{segments_at}
 use Rattle.tt_cmap.specs.Halves.{reached_within}
@@ -14,10 +15,11 @@ use Rattle.tt_cmap.specs.Subtables.{records_of}
 use Rattle.tt_cmap.specs.WideLookup.{wide_cmap_of}
 use Rattle.tt_core.specs.Collections.{directory_by, face_offset, offset_of}
 use Rattle.tt_core.specs.declared.collection.Reading.TheVariants as reading
-use Rattle.tt_core.specs.Directory.{needed_table, read_directory, table_of}
-use Rattle.tt_core.specs.Faults.{Fault}
+use Rattle.tt_core.specs.declared.fault.Why.TheVariants as why
+use Rattle.tt_core.specs.Directory.{file_directory, needed_table, read_directory, table_of}
+use Rattle.tt_core.specs.Faults.{Fault, fault_at}
 use Rattle.tt_core.specs.Outcomes.{◌>>=◌}
-use Rattle.tt_deltas.specs.Gvar.{gvar_in}
+use Rattle.tt_deltas.specs.Gvar.{gvar_in, gvar_tag, shape_fault}
 use Rattle.tt_metrics.specs.Head.{head_of, head_in}
 use Rattle.tt_metrics.specs.Hhea.{hhea_of, hhea_in}
 use Rattle.tt_metrics.specs.Hmtx.{hmtx_of}
@@ -25,9 +27,11 @@ use Rattle.tt_metrics.specs.Maxp.{maxp_of, maxp_in}
 use Rattle.tt_metrics.specs.Metrics.{advance_of, ascent_of, descent_of}
 use Rattle.tt_variation_store.specs.Deltas.{fine_delta}
 use Rattle.tt_variation_store.specs.Numbers.{number}
-use Rattle.tt_face.specs.Faces.{Face, FaceInstance}
+use Rattle.tt_face.specs.Faces.{Face, FaceInstance, finds_advances}
 use Rattle.tt_face.specs.Files.{face_at, face_by}
-use Rattle.tt_face.specs.Instance.{Named, asked_coordinates, by_name, by_number, face_at_coordinates, face_at_instance}
+use Rattle.tt_face.specs.Instance.{Named, asked_coordinates, by_name, by_number, face_at_coordinates, face_at_instance, named_count}
+use Rattle.tt_face.specs.Listed.{variations_of}
+use Rattle.tt_face.specs.Names.{name_of}
 use Rattle.tt_face.specs.Rules.{plain_opening, ruled, table_bytes}
 
 -- coordinates, ascent, descent, and the advances of glyphs 1 and 2
@@ -107,6 +111,50 @@ no_such_axis : told_of named_instances None (record { tag = codes "wdth"; value 
 unfolding face_at_instance face_by face_at directory_by offset_of face_offset read_directory metrics_of head_of head_in maxp_of maxp_in hhea_of hhea_in hmtx_of needed_table table_of wide_cmap_of cmap_of records_of segments_at reached_within asked_coordinates coordinates_of fvar_of fvar_in coordinates_in axis_of coordinate_on avar_of is_avar all_mapped mapped face_at_coordinates gvar_in table_bytes ruled number fine_delta share_of_region_axis
 no_such_axis = refl
 
+-- the font with other bytes at an offset
+abbrev with_bytes : ℕ → List ℕ → List ℕ
+with_bytes at bytes = take at named_instances ++ (bytes ++ drop (at + length bytes) named_instances)
+
+-- the empty text is no name, though the instances of a font without names have the empty one
+the_empty_name : told_of (with_bytes 156 (codes "namf")) (Some (by_name [])) []
+    ≡ Err no_instance
+unfolding face_at_instance face_by face_at directory_by offset_of face_offset read_directory metrics_of head_of head_in maxp_of maxp_in hhea_of hhea_in hmtx_of needed_table table_of wide_cmap_of cmap_of records_of segments_at reached_within asked_coordinates coordinates_of fvar_of fvar_in coordinates_in axis_of coordinate_on avar_of is_avar all_mapped mapped face_at_coordinates gvar_in table_bytes ruled number fine_delta share_of_region_axis
+the_empty_name = refl
+
+no_fvar : told_of (with_bytes 28 (codes "fvaz")) None (weight (pos 58982400) ∷ [])
+    ≡ Err (fault_at fvar_tag 0 why.NoTable)
+unfolding face_at_instance face_by face_at directory_by offset_of face_offset read_directory metrics_of head_of head_in maxp_of maxp_in hhea_of hhea_in hmtx_of needed_table table_of wide_cmap_of cmap_of records_of segments_at reached_within asked_coordinates coordinates_of fvar_of fvar_in coordinates_in axis_of coordinate_on avar_of is_avar all_mapped mapped face_at_coordinates gvar_in table_bytes ruled number fine_delta share_of_region_axis
+no_fvar = refl
+
+-- gvar is looked at where a coordinate is not 0
+no_gvar : told_of (with_bytes 60 (codes "gvaz")) None (weight (pos 58982400) ∷ [])
+    ≡ Err (fault_at gvar_tag 0 why.NoTable)
+unfolding face_at_instance face_by face_at directory_by offset_of face_offset read_directory metrics_of head_of head_in maxp_of maxp_in hhea_of hhea_in hmtx_of needed_table table_of wide_cmap_of cmap_of records_of segments_at reached_within asked_coordinates coordinates_of fvar_of fvar_in coordinates_in axis_of coordinate_on avar_of is_avar all_mapped mapped face_at_coordinates gvar_in table_bytes ruled number fine_delta share_of_region_axis
+no_gvar = refl
+
+the_default_without_gvar : told_of (with_bytes 60 (codes "gvaz")) None (weight (pos 26214400) ∷ [])
+    ≡ Ok ([], pos 256, pos 0, 256, 256)
+unfolding face_at_instance face_by face_at directory_by offset_of face_offset read_directory metrics_of head_of head_in maxp_of maxp_in hhea_of hhea_in hmtx_of needed_table table_of wide_cmap_of cmap_of records_of segments_at reached_within asked_coordinates coordinates_of fvar_of fvar_in coordinates_in axis_of coordinate_on avar_of is_avar all_mapped mapped face_at_coordinates gvar_in table_bytes ruled number fine_delta share_of_region_axis
+the_default_without_gvar = refl
+
+-- 256 shared tuples
+shared_tuples_past_the_end : told_of (with_bytes 334 (1 ∷ 0 ∷ [])) None (weight (pos 58982400) ∷ [])
+    ≡ Err (shape_fault 8)
+unfolding face_at_instance face_by face_at directory_by offset_of face_offset read_directory metrics_of head_of head_in maxp_of maxp_in hhea_of hhea_in hmtx_of needed_table table_of wide_cmap_of cmap_of records_of segments_at reached_within asked_coordinates coordinates_of fvar_of fvar_in coordinates_in axis_of coordinate_on avar_of is_avar all_mapped mapped face_at_coordinates gvar_in table_bytes ruled number fine_delta share_of_region_axis
+shared_tuples_past_the_end = refl
+
+-- what a list of faces has: the axis' name, and the instances' names
+its_axis : option_map (λ f. name_of (axis_of f 0).name (file_directory named_instances)) (variations_of (file_directory named_instances))
+    ≡ Some (codes "Weight")
+unfolding fvar_of fvar_in needed_table table_of axis_of name_of
+its_axis = refl
+
+its_instances : option_map (λ f. map (λ k. name_of (named_instance f k).name (file_directory named_instances)) (range_with_len 0 (named_count f)))
+    (variations_of (file_directory named_instances))
+    ≡ Some (codes "Thin" ∷ codes "Medium" ∷ codes "Black & wide" ∷ codes "Medium" ∷ [])
+unfolding fvar_of fvar_in needed_table table_of name_of
+its_instances = refl
+
 -- HVAR with deltas of 33 and -33 for glyphs 1 and 2
 abbrev with_hvar : List ℕ
 with_hvar =
@@ -168,3 +216,12 @@ rise_and_depth : told_of with_mvar None (weight (pos 58982400) ∷ [])
     ≡ Ok (pos 65536 ∷ [], pos 320, negsuc 63, 256, 256)
 unfolding face_at_instance face_by face_at directory_by offset_of face_offset read_directory metrics_of head_of head_in maxp_of maxp_in hhea_of hhea_in hmtx_of needed_table table_of wide_cmap_of cmap_of records_of segments_at reached_within asked_coordinates coordinates_of fvar_of fvar_in coordinates_in axis_of coordinate_on avar_of is_avar all_mapped mapped face_at_coordinates gvar_in table_bytes ruled number fine_delta share_of_region_axis
 rise_and_depth = refl
+
+-- advances are found by phantom points at an instance without HVAR alone
+abbrev finds : List ℕ → ℤ → Result Bool Fault
+finds file v = face_at_instance file (plain_opening reading.Strict) (Some (record { named = None; axes = weight v ∷ [] })) >>= λ face. Ok (finds_advances face)
+
+found_without_hvar : finds named_instances (pos 58982400) ∷ finds named_instances (pos 26214400) ∷ finds with_hvar (pos 58982400) ∷ []
+    ≡ Ok true ∷ Ok false ∷ Ok false ∷ []
+unfolding face_at_instance face_by face_at directory_by offset_of face_offset read_directory metrics_of head_of head_in maxp_of maxp_in hhea_of hhea_in hmtx_of needed_table table_of wide_cmap_of cmap_of records_of segments_at reached_within asked_coordinates coordinates_of fvar_of fvar_in coordinates_in axis_of coordinate_on avar_of is_avar all_mapped mapped face_at_coordinates gvar_in table_bytes ruled number fine_delta share_of_region_axis
+found_without_hvar = refl

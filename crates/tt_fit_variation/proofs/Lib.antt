@@ -1,3 +1,2 @@
-mod Lists
 mod Near
 mod Zipped

@@ -49,8 +49,10 @@ by_7_and_5 =
 
 -- at 4915 of 65536 they move by 34/64 and -24/64
 parts_of_a_unit : square_at (size_by scaling.Rounded 300 1024) by_7_and_5 (pos 4915)
-    ≡ Ok ((pos 1200, pos 0, true) ∷ (pos 1200, pos 2393, true) ∷ (pos 3610, pos 2393, true) ∷ (pos 3610, pos 0, true) ∷ [],
-        record { left = (pos 0, pos 0); right = (pos 4810, pos 0); ascent = (pos 0, pos 4800); descent = (pos 0, pos 0) })
+    ≡ Ok (
+      (pos 1200, pos 0, true) ∷ (pos 1200, pos 2393, true) ∷ (pos 3610, pos 2393, true) ∷ (pos 3610, pos 0, true) ∷ [],
+      record { left = (pos 0, pos 0); right = (pos 4810, pos 0); ascent = (pos 0, pos 4800); descent = (pos 0, pos 0) },
+    )
 unfolding varied_glyph glyph_data_of points_by_all varied_along contour inferred tuples_of tuples_from tuple_at
     tuple_header_at header_at shared_points_of peak_at sides_at points_at listed_at count_at numbers_from next_number
     number_run_at deltas_from next_delta delta_run_at byte_in word_in signed_in slice_in share_after share_of_tuple_axis
@@ -59,8 +61,10 @@ parts_of_a_unit = refl
 
 -- at 44171 of 65536, by the exact scale
 parts_by_the_exact_scale : square_at (size_by scaling.Exact 300 1024) by_7_and_5 (pos 44171)
-    ≡ Ok ((pos 1200, pos 0, true) ∷ (pos 1200, pos 2337, true) ∷ (pos 3688, pos 2337, true) ∷ (pos 3688, pos 0, true) ∷ [],
-        record { left = (pos 0, pos 0); right = (pos 4888, pos 0); ascent = (pos 0, pos 4800); descent = (pos 0, pos 0) })
+    ≡ Ok (
+      (pos 1200, pos 0, true) ∷ (pos 1200, pos 2337, true) ∷ (pos 3688, pos 2337, true) ∷ (pos 3688, pos 0, true) ∷ [],
+      record { left = (pos 0, pos 0); right = (pos 4888, pos 0); ascent = (pos 0, pos 4800); descent = (pos 0, pos 0) },
+    )
 unfolding varied_glyph glyph_data_of points_by_all varied_along contour inferred tuples_of tuples_from tuple_at
     tuple_header_at header_at shared_points_of peak_at sides_at points_at listed_at count_at numbers_from next_number
     number_run_at deltas_from next_delta delta_run_at byte_in word_in signed_in slice_in share_after share_of_tuple_axis

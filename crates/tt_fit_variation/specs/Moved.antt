@@ -2,14 +2,13 @@
 -- int16 (profile).
 use Rattle.std.specs.Prelude.{◌≡◌, refl, ℕ, Bool, true, false, not, ◌&&◌, if◌then◌else◌, ℤ, pos, negsuc, int_lt, List, [], ◌∷◌, map, Result, Ok, Err}
 use Rattle.tt_core.specs.Faults.{Fault}
-use Rattle.tt_core.specs.Outcomes.{◌>>=◌, each}
+use Rattle.tt_core.specs.Outcomes.{◌>>=◌}
 use Rattle.tt_deltas.specs.declared.varied.Varied.{Varied}
 use Rattle.tt_deltas.specs.Units.{moved_sixty_fourths, moved_units}
 use Rattle.tt_fit_outline.specs.declared.rules.Scaling.TheVariants as scaling
 use Rattle.tt_fit_outline.specs.Scaling.{coordinate_fault, is_coordinate}
 use Rattle.tt_fit_outline.specs.Size.{FontSize, size_by}
 use Rattle.tt_glyf.specs.declared.raw.RawPoint.{RawPoint}
-use Rattle.tt_fit_variation.specs.declared.varied_point.VariedPoint.{VariedPoint}
 use Rattle.tt_fit_variation.specs.Fine.{fine_scaled}
 
 -- whether a coordinate is an int16
@@ -30,19 +29,17 @@ pub record InstancePoint : Type 0 where
 abbrev pub point_of : Bool → ℤ × ℤ → ℤ × ℤ → InstancePoint
 point_of on x y = record { unit = record { x = x.0; y = y.0; on = on }; place = (x.1, y.1, on) }
 
-unfoldable pub instance_point : FontSize → ℕ → VariedPoint → Result InstancePoint Fault
-instance_point z at p = moved_coordinate z at p.x >>= λ x. moved_coordinate z at p.y >>= λ y. Ok (point_of p.on x y)
-
--- points with the deltas of their coordinates
-abbrev pub with_deltas : List RawPoint → List Varied → List Varied → List VariedPoint
-with_deltas [] xs ys = []
-with_deltas (p ∷ ps) [] ys = []
-with_deltas (p ∷ ps) (x ∷ xs) [] = []
-with_deltas (p ∷ ps) (x ∷ xs) (y ∷ ys) = record { x = x; y = y; on = p.on } ∷ with_deltas ps xs ys
+-- from a point's coordinates with their deltas
+unfoldable pub instance_point : FontSize → ℕ → Bool → Varied → Varied → Result InstancePoint Fault
+instance_point z at on x y = moved_coordinate z at x >>= λ a. moved_coordinate z at y >>= λ b. Ok (point_of on a b)
 
 -- the points of a simple glyph that begins at an offset in glyf, or the first fault
 abbrev pub instance_points : FontSize → ℕ → List RawPoint → List Varied → List Varied → Result (List InstancePoint) Fault
-instance_points z at points xs ys = each (instance_point z at) (with_deltas points xs ys)
+instance_points z at [] xs ys = Ok []
+instance_points z at (p ∷ ps) [] ys = Ok []
+instance_points z at (p ∷ ps) (x ∷ xs) [] = Ok []
+instance_points z at (p ∷ ps) (x ∷ xs) (y ∷ ys) =
+    instance_point z at p.on x y >>= λ q. instance_points z at ps xs ys >>= λ qs. Ok (q ∷ qs)
 
 -- the points in 26.6 pixels, and in whole font units
 abbrev pub instance_places : List InstancePoint → List (ℤ × ℤ × Bool)

@@ -125,7 +125,8 @@ impl GlyphVariation<'_, '_> {
 }
 
 impl GlyphDeltas {
-    /// The deltas of the phantom points. Where HVAR gives the advance, its right end does not move by gvar.
+    /// The deltas of the phantom points. Where HVAR gives the advance, its right end does not move by gvar. Apart from
+    /// `end_deltas` (for the prover), which takes slices.
     pub fn ends(&self, by_hvar: bool) -> EndDeltas
         ensures { deltas_view result ≡ end_deltas by_hvar self.now.points (glyph_view self.now) }
     {

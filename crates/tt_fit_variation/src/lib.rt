@@ -10,7 +10,6 @@ mod glyph;
 mod points;
 mod records;
 mod varied_glyph;
-mod varied_point;
 
 pub use end::EndDeltas;
 pub use fine::varied_control_value;

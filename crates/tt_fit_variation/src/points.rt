@@ -5,11 +5,10 @@ ghost use Rattle.tt_core.specs.Outcomes.{FontGives, Gives};
 ghost use Rattle.tt_deltas.specs.Along.{IsWithin};
 ghost use Rattle.tt_fit_outline.specs.Outline.{IsPoint};
 ghost use Rattle.tt_fit_outline.specs.Views.{size_view};
-ghost use Rattle.tt_fit_variation.specs.Moved.{instance_places, instance_point, instance_points, instance_units, with_deltas};
+ghost use Rattle.tt_fit_variation.specs.Moved.{instance_places, instance_point, instance_points, instance_units};
 ghost use Rattle.tt_fit_variation.specs.Views.{point_view, points_view};
 
 use crate::coordinate::moved_coordinate;
-use crate::varied_point::VariedPoint;
 use std::alloc::{AllocError, Global};
 use tt_core::{Fault, FontFault};
 use tt_deltas::Varied;
@@ -24,45 +23,28 @@ pub struct InstancePoint {
     pub ghost within: { IsPoint place },
 }
 
-/// Each point with the deltas of its coordinates.
-fn with_deltas(
-    alloc: Global,
-    points: &[RawPoint],
-    xs: &[Varied],
-    ys: &[Varied],
-) -> Result<Vec<VariedPoint>, AllocError>
-    requires xs { length points.now ≤ length xs.now }
-    requires ys { length points.now ≤ length ys.now }
-    requires x_near { All (IsWithin (2 ^ 46)) xs.now }
-    requires y_near { All (IsWithin (2 ^ 46)) ys.now }
-    ensures exact { IfOk result (λ v. v.items ≡ with_deltas points.now xs.now ys.now) }
-    ensures count { IfOk result (λ v. length v.items ≡ length points.now) }
-{
-    let mut varied = Vec::with_capacity(alloc, points.len())?;
-    for i in 0..points.len() {
-        varied.push(VariedPoint {
-            x: xs[i],
-            y: ys[i],
-            on: points[i].on,
-        })?;
-    }
-    Ok(varied)
-}
-
 /// A point at an instance. Error: CoordRange, at this offset in glyf.
 #[tactic(auto, unfolding(crate::specs::Moved::instance_point))]
-fn instance_point(size: FontSize, at: u32, point: VariedPoint) -> Result<InstancePoint, Fault>
-    ensures exact { Gives point_view result (instance_point (size_view size) at point) }
+fn instance_point(
+    size: FontSize,
+    at: u32,
+    on: bool,
+    x: Varied,
+    y: Varied,
+) -> Result<InstancePoint, Fault>
+    requires x { IsWithin (2 ^ 46) x }
+    requires y { IsWithin (2 ^ 46) y }
+    ensures exact { Gives point_view result (instance_point (size_view size) at on x y) }
 {
-    let x = moved_coordinate(size, at, point.x)?;
-    let y = moved_coordinate(size, at, point.y)?;
+    let x = moved_coordinate(size, at, x)?;
+    let y = moved_coordinate(size, at, y)?;
     Ok(InstancePoint {
         unit: RawPoint {
             x: x.unit,
             y: y.unit,
-            on: point.on,
+            on,
         },
-        place: (x.place, y.place, point.on),
+        place: (x.place, y.place, on),
     })
 }
 
@@ -83,10 +65,9 @@ pub fn instance_points(
     ensures exact { FontGives (λ v. points_view v.items) result (instance_points (size_view size) at points.now xs.now ys.now) }
     ensures count { IfOk result (λ v. length v.items ≡ length points.now) }
 {
-    let varied = with_deltas(alloc, points, xs, ys)?;
-    let mut moved = Vec::with_capacity(alloc, varied.len())?;
-    for point in &varied {
-        moved.push(instance_point(size, at, *point)?)?;
+    let mut moved = Vec::with_capacity(alloc, points.len())?;
+    for i in 0..points.len() {
+        moved.push(instance_point(size, at, points[i].on, xs[i], ys[i])?)?;
     }
     Ok(moved)
 }
@@ -108,10 +89,7 @@ pub fn instance_places(
 }
 
 /// The points in whole font units.
-pub fn instance_units(
-    alloc: Global,
-    points: &[InstancePoint],
-) -> Result<Vec<RawPoint>, AllocError>
+pub fn instance_units(alloc: Global, points: &[InstancePoint]) -> Result<Vec<RawPoint>, AllocError>
     ensures exact { IfOk result (λ v. v.items ≡ instance_units (points_view points.now)) }
     ensures count { IfOk result (λ v. length v.items ≡ length points.now) }
 {

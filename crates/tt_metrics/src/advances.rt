@@ -42,7 +42,8 @@ impl<'a> VariedAdvances<'a> {
         }
     }
 
-    /// A glyph's advance at the instance, by its advance in hmtx, in font units.
+    /// A glyph's advance at the instance, by its advance in hmtx, in font units. Apart (for the prover): `Metrics` sees
+    /// no part of it.
     pub(crate) fn advance(&self, g: u16, advance: u16) -> u16
         ensures { result ≡ advance_by (Some self.now) g advance }
     {
