@@ -2,6 +2,7 @@
 -- reading of the first face gives a text without selectors the same answers. A face is its font. OpenType, "TrueType
 -- Collections".
 use Rattle.std.specs.Prelude.{◌≡◌, ℕ, ◌≤◌, false, All, List, length, flat_map, chars, None, Ok}
+use Rattle.tt_advances.specs.Found.{units_of}
 use Rattle.tt_cmap.specs.Lookup.{Cmap, glyph_of}
 use Rattle.tt_cmap.specs.Maps.{strict}
 use Rattle.tt_cmap.specs.Units.{is_selector}
@@ -16,12 +17,11 @@ use Rattle.tt_face.specs.declared.rules.Opening.{Opening}
 use Rattle.tt_face.specs.Faces.{Face}
 use Rattle.tt_face.specs.Files.{SameTables, face_of}
 use Rattle.tt_face.specs.Rules.{ruled}
-use Rattle.tt_metrics.specs.Metrics.{Metrics, advance_of}
 use Rattle.tt_strike.specs.Job.{Job, tested, text_tested}
 use Rattle.tt_strike.specs.Picture.{pictured_by}
 use Rattle.tt_strike.specs.Refusals.{as_font}
 use Rattle.tt_render_streams.specs.File.{as_file}
-use Rattle.tt_render_run.specs.MapLines.{line_text, map_lines, map_outcome}
+use Rattle.tt_render_run.specs.MapLines.{line_text, lines_in, map_lines, map_outcome}
 use Rattle.tt_render_run.specs.Outcome.{outcome_of}
 use Rattle.tt_render_run.specs.Run.{run_outcome}
 
@@ -36,12 +36,12 @@ StrictRuns = (rules : LineRules) (a : Job) (file : List ℕ) → run_outcome (op
 
 abbrev pub StrictMaps : Type 0
 StrictMaps = (text file : List ℕ) → map_outcome reading.Strict None text file
-    ≡ outcome_of (text_tested text) (λ font. as_font (face_of font >>= λ face. Ok (map_lines face.metrics face.cmap text))) file
+    ≡ outcome_of (text_tested text) (λ font. as_font (face_of font >>= λ face. lines_in face text)) file
 
 -- with a map of the strict reading each character has a line
 abbrev pub CharactersHaveLines : Type 0
-CharactersHaveLines = (m : Metrics) (cmap : Cmap) (text : List ℕ) → map_lines m (strict cmap) text
-    ≡ flat_map (λ c. line_text c (glyph_of cmap c) (advance_of m (glyph_of cmap c))) (chars text)
+CharactersHaveLines = (face : Face) (cmap : Cmap) (text : List ℕ) → face.cmap ≡ strict cmap → map_lines face text
+    ≡ flat_map (λ c. line_text c (glyph_of cmap c) (units_of face (glyph_of cmap c))) (chars text)
 
 -- no character of a text is a selector
 abbrev pub IsPlainText : List ℕ → Type 0
