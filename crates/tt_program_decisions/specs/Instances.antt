@@ -1,5 +1,5 @@
 -- No part of the standard: the words of `--instance` and `--axis`, and their instance (profile).
-use Rattle.std.specs.Prelude.{◌≡◌, refl, ℕ, ◌+◌, ◌-◌, ◌*◌, min, Bool, true, false, ◌&&◌, nat_le, nat_lt, if◌then◌else◌, List, [], ◌∷◌, length, map, fold, codes, Option, Some, None, option_map}
+use Rattle.std.specs.Prelude.{◌≡◌, refl, ℕ, ◌+◌, ◌-◌, ◌*◌, min, Bool, false, ◌&&◌, nat_le, nat_lt, if◌then◌else◌, List, [], ◌∷◌, length, map, fold, codes, Option, Some, None, option_map}
 use Rattle.std.specs.List.{list_all}
 use Rattle.tt_axes.specs.AxisWords.{axis_values_of}
 use Rattle.tt_axes.specs.declared.values.AxisValue.{AxisValue}
@@ -24,7 +24,7 @@ is_digit c = nat_le 48 c && nat_le c 57
 
 -- digits alone
 abbrev pub is_number : List ℕ → Bool
-is_number word = nat_lt 0 (length word) && list_all is_digit word
+is_number word = if nat_lt (length word) 1 then false else list_all is_digit word
 
 -- a number with one more digit, at most 2^32 - 1
 abbrev pub with_digit : ℕ → ℕ → ℕ

@@ -2,7 +2,7 @@
 
 ghost use Rattle.std.specs.Prelude.{◌≡◌, true, is_some, option_map, IfErr, IfOk};
 ghost use Rattle.tt_face.specs.Views.{asked_view, named_view};
-ghost use Rattle.tt_program_decisions.specs.Instances.{AsksWords, axes_asked, instance_asked, is_number, named_asked, number_of, with_digit};
+ghost use Rattle.tt_program_decisions.specs.Instances.{AsksWords, axes_asked, instance_asked, is_digit, is_number, named_asked, number_of, with_digit};
 
 use crate::request::Arguments;
 use std::alloc::{AllocError, Global};
@@ -32,7 +32,7 @@ pub fn instance_words<'a, A: Arguments<'a>>(arguments: &A) -> InstanceWords<'a>
 /// Error: memory ran out.
 pub fn axes_asked(alloc: Global, words: Option<&str>) -> Result<Option<Vec<AxisValue>>, AllocError>
     ensures exact { IfOk result (λ axes. option_map (λ vs. vs.items) axes ≡ axes_asked (option_map (λ s. s.now) words.entry)) }
-    ensures memory { IfErr result (λ e. is_some words ≡ true) }
+    ensures memory { IfErr result (λ e. is_some words.entry ≡ true) }
 {
     match words {
         Some(words) => read_axis_values(alloc, words.as_bytes()),
@@ -60,11 +60,20 @@ fn number_of(digits: &[u8]) -> u32
     n
 }
 
+fn is_digit(c: u8) -> bool
+    ensures { result ≡ is_digit c }
+{
+    c.is_ascii_digit()
+}
+
 /// Whether some words are digits alone.
 fn is_number(words: &[u8]) -> bool
     ensures { result ≡ is_number words.now }
 {
-    !words.is_empty() && words.iter().all(|c| c.is_ascii_digit())
+    if words.is_empty() {
+        return false;
+    }
+    words.iter().all(|c| is_digit(*c))
 }
 
 /// The named instance of a word: digits alone are its number, other words its name.
@@ -82,7 +91,7 @@ fn named_asked<'a>(word: &'a str) -> NamedBy<'a>
 impl<'a> InstanceWords<'a> {
     /// The instance of the words, by the values that those of `--axis` give. None without words.
     pub fn asked(self, axes: &'a [AxisValue]) -> Option<AskedInstance<'a>>
-        ensures { option_map asked_view result ≡ instance_asked (option_map (λ s. s.now) self.named) (option_map (λ s. s.now) self.axes) axes.now }
+        ensures { option_map asked_view result ≡ instance_asked (option_map (λ s. s.now) self.entry.named) (option_map (λ s. s.now) self.entry.axes) axes.now }
     {
         let named = match self.named {
             Some(word) => Some(named_asked(word)),

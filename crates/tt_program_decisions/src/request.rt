@@ -100,7 +100,7 @@ impl<'a> Request<'a> {
 
     /// The same request at an instance. The faces of a file are told without one.
     pub fn at(self, instance: Option<AskedInstance<'a>>) -> Request<'a>
-        ensures { result ≡ request_at self instance }
+        ensures { result ≡ request_at self.entry instance.entry }
     {
         let mut request = self;
         match &mut request {

@@ -1,5 +1,5 @@
 -- OpenType, "fvar: Font Variations Table": the axes and named instances of a face as lines of text (profile).
-use Rattle.std.specs.Prelude.{◌≡◌, refl, ℕ, pos, negsuc, ◌==◌, if◌then◌else◌, List, [], ◌∷◌, ◌++◌, map, flat_map, codes, decimal, Option, Some, None}
+use Rattle.std.specs.Prelude.{◌≡◌, refl, ℕ, ℤ, pos, negsuc, ◌==◌, if◌then◌else◌, List, [], ◌∷◌, ◌++◌, map, flat_map, codes, decimal, Option, Some, None}
 use Rattle.std.specs.Fmt.{digits}
 use Rattle.std.specs.List.{range_with_len}
 use Rattle.tt_axes.specs.Axes.{axis_of, fixed_at}
@@ -31,9 +31,13 @@ abbrev pub axis_line : Directory → VariationAxis → List ℕ
 axis_line d a =
     codes "axis " ++ (tag_words a.tag ++ (axis_figures a ++ (behind_blank (name_of a.name d) ++ codes "\n")))
 
+-- `=<value>`
+abbrev pub value_words : ℤ → List ℕ
+value_words v = codes "=" ++ shown_value v
+
 -- `<tag>=<value>`, the place of named instance k on axis i
 abbrev pub place_words : List ℕ → ℕ → ℕ → List ℕ
-place_words fvar k i = tag_words (axis_of fvar i).tag ++ (codes "=" ++ shown_value (place_in fvar k i))
+place_words fvar k i = tag_words (axis_of fvar i).tag ++ value_words (place_in fvar k i)
 
 -- a comma between two places
 abbrev pub comma : ℕ → List ℕ
@@ -51,8 +55,11 @@ instance_line d fvar k =
     codes "instance " ++ (decimal k ++ (codes " " ++ (places fvar k
     ++ (behind_blank (name_of (named_instance fvar k).name d) ++ codes "\n"))))
 
+abbrev pub numbered_axis : Directory → List ℕ → ℕ → List ℕ
+numbered_axis d fvar i = axis_line d (axis_of fvar i)
+
 abbrev pub axis_lines : Directory → List ℕ → List ℕ
-axis_lines d fvar = flat_map (λ i. axis_line d (axis_of fvar i)) (range_with_len 0 (axis_count fvar))
+axis_lines d fvar = flat_map (numbered_axis d fvar) (range_with_len 0 (axis_count fvar))
 
 -- those of the first 256 instances
 abbrev pub instance_lines : Directory → List ℕ → List ℕ

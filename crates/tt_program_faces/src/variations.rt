@@ -3,7 +3,7 @@
 ghost use Rattle.std.specs.Prelude.{◌≡◌, ◌<◌, ◌++◌, string_bytes, IfOk, OnOk};
 ghost use Rattle.tt_axes.specs.Fvar.{axis_count, instance_count};
 ghost use Rattle.tt_face.specs.Names.{told_character};
-ghost use Rattle.tt_program_faces.specs.Variations.{axis_figures, axis_line, axis_lines, behind_blank, comma, instance_line, instance_lines, next_place, places, tag_words, variation_lines};
+ghost use Rattle.tt_program_faces.specs.Variations.{axis_figures, axis_line, axis_lines, behind_blank, comma, instance_line, instance_lines, next_place, places, tag_words, value_words, variation_lines};
 
 use std::alloc::{AllocError, Global};
 use tt_axes::{Fvar, VariationAxis, value_text};
@@ -81,6 +81,15 @@ fn push_comma(lines: &mut Vec<u8>, i: usize) -> Result<(), AllocError>
     Ok(())
 }
 
+/// Appends a value behind an equals sign. Error: memory ran out.
+fn push_value(lines: &mut Vec<u8>, alloc: Global, value: i32) -> Result<(), AllocError>
+    ensures { OnOk result (lines.new.items ≡ lines.old.items ++ value_words value) }
+{
+    let shown = value_text(alloc, value)?;
+    lines.push(b'=')?;
+    lines.extend_from_slice(shown.as_bytes())
+}
+
 /// Appends the place of a named instance on an axis, behind a comma but for the first. Error: memory ran out.
 fn push_place(
     lines: &mut Vec<u8>,
@@ -93,11 +102,9 @@ fn push_place(
     requires axis { i < axis_count fvar.now }
     ensures { OnOk result (lines.new.items ≡ lines.old.items ++ next_place fvar.now k i) }
 {
-    let value = value_text(alloc, fvar.place(k, i))?;
     push_comma(lines, i)?;
     push_tag(lines, fvar.axis(i).tag)?;
-    lines.push(b'=')?;
-    lines.extend_from_slice(value.as_bytes())
+    push_value(lines, alloc, fvar.place(k, i))
 }
 
 /// Appends the places of a named instance. Error: memory ran out.
