@@ -1,6 +1,7 @@
 //! The words of `--instance` and `--axis`, and their instance.
 
 ghost use Rattle.std.specs.Prelude.{◌≡◌, true, is_some, option_map, IfErr, IfOk};
+ghost use Rattle.std.specs.List.{list_all};
 ghost use Rattle.tt_face.specs.Views.{asked_view, named_view};
 ghost use Rattle.tt_program_decisions.specs.Instances.{AsksWords, axes_asked, instance_asked, is_digit, is_number, named_asked, number_of, with_digit};
 
@@ -66,14 +67,20 @@ fn is_digit(c: u8) -> bool
     c.is_ascii_digit()
 }
 
-/// Whether some words are digits alone.
-fn is_number(words: &[u8]) -> bool
-    ensures { result ≡ is_number words.now }
+fn are_digits(word: &[u8]) -> bool
+    ensures { result ≡ list_all is_digit word.now }
 {
-    if words.is_empty() {
+    word.iter().all(|c| is_digit(*c))
+}
+
+/// Whether a word is digits alone.
+fn is_number(word: &[u8]) -> bool
+    ensures { result ≡ is_number word.now }
+{
+    if word.is_empty() {
         return false;
     }
-    words.iter().all(|c| is_digit(*c))
+    are_digits(word)
 }
 
 /// The named instance of a word: digits alone are its number, other words its name.

@@ -1,7 +1,8 @@
--- The lines of one more face, and a name behind a blank.
-use Rattle.std.proofs.Common.{◌≡◌, ℕ, suc, ◌+◌, zero, List, [], ◌∷◌, ◌++◌, flat_map, ap, ◌∙◌, refl, arith}
+-- The lines of one more face, and one more place of a named instance.
+use Rattle.std.proofs.Common.{◌≡◌, ℕ, suc, ◌+◌, zero, List, [], ◌∷◌, ◌++◌, flat_map, ap, append_assoc, ◌∙◌, refl, ℤ, arith}
 use Rattle.std.proofs.lemmas.List.{flat_map_more}
 use Rattle.std.specs.List.{range_with_len}
+use Rattle.tt_program_faces.specs.Variations.{value_words}
 
 more-from : (a n j : ℕ) → a + n ≡ j → range_with_len a (suc n) ≡ range_with_len a n ++ j ∷ []
 more-from a zero j is = let same : a ≡ j = omega (arith, is) in ap (λ k. k ∷ []) same
@@ -16,3 +17,9 @@ pub lines-more : (line : ℕ → List ℕ) (head : List ℕ) (n : ℕ) → (head
     ≡ head ++ flat_map line (range_with_len 0 (n + 1))
 lines-more line head n = flat_map_more line head (range_with_len 0 n) n
     ∙ ap (λ ns. head ++ flat_map line ns) (rw (range-more n) refl)
+
+-- a tag and a value behind what there is
+pub place-more : (head comma tag : List ℕ) {v w : ℤ} → v ≡ w
+    → ((head ++ comma) ++ tag) ++ value_words v ≡ head ++ (comma ++ (tag ++ value_words w))
+place-more head comma tag {v} {w} is = append_assoc (head ++ comma) tag (value_words v) ∙ append_assoc head comma (tag ++ value_words v)
+    ∙ ap (λ x. head ++ (comma ++ (tag ++ value_words x))) is

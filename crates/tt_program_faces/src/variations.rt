@@ -104,7 +104,8 @@ fn push_place(
 {
     push_comma(lines, i)?;
     push_tag(lines, fvar.axis(i).tag)?;
-    push_value(lines, alloc, fvar.place(k, i))
+    push_value(lines, alloc, fvar.place(k, i))?;
+    Ok(())
 }
 
 /// Appends the places of a named instance. Error: memory ran out.
