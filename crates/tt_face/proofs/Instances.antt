@@ -1,7 +1,6 @@
 -- Faces at an instance: the default's, and those that have no defect.
-use Rattle.std.proofs.Common.{◌≡◌, ◌∙◌, ℕ, ℤ, Bool, true, false, List, length, Option, Some, None, Result, Ok, Err, inl, inr, refl, subst, sym, ap}
-use Rattle.std.specs.Prelude.{option_map, IsOkAnd, if◌then◌else◌, ◌⊎◌}
-use Rattle.tt_core.specs.Chains.{was-err}
+use Rattle.std.proofs.Common.{◌≡◌, ℕ, ℤ, Bool, true, false, List, length, Option, Some, None, Result, Ok, Err, inl, inr, refl, subst}
+use Rattle.std.specs.Prelude.{option_map, IsOkAnd, if◌then◌else◌}
 use Rattle.tt_core.specs.Directory.{Directory, HasNo, IsDefectIn}
 use Rattle.tt_core.specs.Faults.{Fault}
 use Rattle.tt_core.specs.Outcomes.{◌>>=◌}
@@ -15,8 +14,8 @@ use Rattle.tt_deltas.specs.Gvar.{Gvar, gvar_of, gvar_tag, IsShapeDefect}
 use Rattle.tt_face.specs.declared.rules.Opening.{Opening}
 use Rattle.tt_face.specs.Faces.{Face}
 use Rattle.tt_face.specs.Files.{face_by, face_with, IsFaceDefectBy}
-use Rattle.tt_face.specs.Instance.{Asked, Named, asked_coordinates, asked_number, face_at_asked, face_at_coordinates, face_at_instance, face_by_gvar, number_of, IsAskedDefect, IsDefectAtInstance, IsVariationDefect, LacksInstance, ZeroKeepsFaces}
-use Rattle.tt_face.specs.Laws.{coordinates_before, AvarRefusesNothing, DefaultsAreFaces, FaultsComeFirst, GvarAloneRefuses, ZeroIsTheDefault}
+use Rattle.tt_face.specs.Instance.{Asked, Named, asked_coordinates, asked_number, face_at_coordinates, face_at_instance, face_by_gvar, number_of, IsAskedDefect, IsDefectAtInstance, IsVariationDefect, LacksInstance, ZeroKeepsFaces}
+use Rattle.tt_face.specs.Laws.{AvarRefusesNothing, DefaultsAreFaces, FaultsComeFirst, GvarAloneRefuses, ZeroIsTheDefault}
 use Rattle.tt_face.specs.Rules.{ruled}
 
 then-ruled : (o : Opening) (given : Result Face Fault)

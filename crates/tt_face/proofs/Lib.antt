@@ -3,3 +3,4 @@ mod Plain
 mod Readings
 mod Told
 pub mod Whole
+mod WholeInstances

@@ -1,7 +1,7 @@
 -- The face of a font file, its defects, and the lemmas about both. With the strict reading a file has one font; the wide
 -- reading says which face of the file is meant. Apple TrueType Reference Manual, "The Font Directory"; OpenType, "Font
 -- Tables", "TrueType Collections".
-use Rattle.std.specs.Prelude.{◌≡◌, refl, ℕ, false, List, [], ◌∷◌, None, Result, Ok, Err, IsOkAnd, ◌⊎◌}
+use Rattle.std.specs.Prelude.{◌≡◌, refl, ℕ, List, [], ◌∷◌, None, Result, Ok, Err, IsOkAnd, ◌⊎◌}
 use Rattle.tt_cmap.specs.Lookup.{cmap_of}
 use Rattle.tt_cmap.specs.Maps.{strict, map_by, glyph_by, IsBadMap}
 use Rattle.tt_core.specs.Collections.{directory_by, IsDirectoryDefectBy}

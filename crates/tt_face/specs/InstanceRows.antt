@@ -24,7 +24,7 @@ use Rattle.tt_metrics.specs.Head.{head_of, head_in}
 use Rattle.tt_metrics.specs.Hhea.{hhea_of, hhea_in}
 use Rattle.tt_metrics.specs.Hmtx.{hmtx_of}
 use Rattle.tt_metrics.specs.Maxp.{maxp_of, maxp_in}
-use Rattle.tt_metrics.specs.Metrics.{advance_of, ascent_of, descent_of}
+use Rattle.tt_metrics.specs.Metrics.{advance_of, ascent_of, descent_of, metrics_of}
 use Rattle.tt_variation_store.specs.Deltas.{fine_delta}
 use Rattle.tt_variation_store.specs.Numbers.{number}
 use Rattle.tt_face.specs.Faces.{Face, FaceInstance, finds_advances}

@@ -13,7 +13,7 @@ use Rattle.tt_face.specs.Defects.{IsGlyphTableDefect, HasProgramPastEnd}
 use Rattle.tt_face.specs.declared.rules.Opening.{Opening}
 use Rattle.tt_face.specs.Faces.{Face, glyphs_in, programs_of}
 use Rattle.tt_face.specs.Files.{face_by, face_with}
-use Rattle.tt_face.specs.Instance.{Asked, asked_coordinates, face_at_coordinates, face_at_instance, number_of}
+use Rattle.tt_face.specs.Instance.{Asked, asked_coordinates, face_at_coordinates, face_at_instance, number_of, IsDefectAtInstance}
 use Rattle.tt_face.specs.Programs.{ProgramTables}
 
 -- a face that gives loca and glyf has no defect in them
@@ -52,3 +52,8 @@ AvarRefusesNothing = (d : Directory) (a : Asked) (fault : Fault) → asked_coord
 abbrev pub GvarAloneRefuses : Type 0
 GvarAloneRefuses = (face : Face) (c : List ℤ) (fault : Fault) → face_at_coordinates face c ≡ Err fault
     → (are_zero c ≡ false) × (gvar_of face.directory (length c) ≡ Err fault)
+
+-- a face that is given at an instance has no defect
+abbrev pub InstancesAreWhole : Type 0
+InstancesAreWhole = (file : List ℕ) (o : Opening) (asked : Option Asked) (face : Face) → face_at_instance file o asked ≡ Ok face
+    → HasNo (IsDefectAtInstance file o asked)

@@ -1,6 +1,6 @@
 //! Lemmas about the definitions, for all files. No code runs.
 
-ghost use Rattle.tt_face.specs.Laws.{AvarRefusesNothing, DefaultsAreFaces, FaultsComeFirst, GlyphTablesAreWhole, GvarAloneRefuses, ProgramsAreWhole, ZeroIsTheDefault};
+ghost use Rattle.tt_face.specs.Laws.{AvarRefusesNothing, DefaultsAreFaces, FaultsComeFirst, GlyphTablesAreWhole, GvarAloneRefuses, InstancesAreWhole, ProgramsAreWhole, ZeroIsTheDefault};
 ghost use Rattle.tt_face.specs.Instance.{ZeroKeepsFaces};
 ghost use Rattle.tt_face.specs.Files.{FacesAreWhole, ReadFacesAreWhole, StrictIsTheFace, FacesAreTheirFonts, OpenedFacesAreWhole, PlainRulesKeepFaces, RulesKeepFaults, WideFacesExtend};
 
@@ -41,4 +41,9 @@ pub fn few_tables_refuse()
     ensures face { FaultsComeFirst }
     ensures coordinates { AvarRefusesNothing }
     ensures tables { GvarAloneRefuses }
+{}
+
+/// Lemma: a face that is given at an instance has no defect.
+pub fn instances_are_whole()
+    ensures { InstancesAreWhole }
 {}

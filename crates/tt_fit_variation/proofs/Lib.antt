@@ -1,2 +1,3 @@
-mod Near
-mod Zipped
+pub mod EndsMade
+pub mod Near
+pub mod RecordsMade

@@ -1,7 +1,7 @@
 -- OpenType, "gvar", "Point numbers and processing for composite glyphs" (phantom points): the ends of an advance, the
 -- ascent and the descent at an instance. Of their deltas those along the axis of each count (profile).
-use Rattle.std.specs.Prelude.{◌≡◌, refl, ℕ, ◌+◌, Bool, true, false, ◌&&◌, nat_le, if◌then◌else◌, ℤ, pos, negsuc, ◌+ℤ◌, ◌-ℤ◌, ◌*ℤ◌, unsigned_abs, int_lt, List, [], ◌∷◌, map, slice_get, Option, Some, None, Result, Ok, Err}
-use Rattle.std.specs.Int.{int_div_euclid}
+use Rattle.std.specs.Prelude.{◌≡◌, refl, ℕ, ◌+◌, Bool, true, false, ◌&&◌, nat_le, if◌then◌else◌, ℤ, pos, negsuc, ◌+ℤ◌, ◌-ℤ◌, ◌*ℤ◌, unsigned_abs, List, [], ◌∷◌, map, slice_get, Option, Some, None, Result, Ok, Err}
+use Rattle.std.specs.Int.{int_div_euclid, int_max, int_min}
 use Rattle.tt_core.specs.declared.scaling.Scale.{Scale}
 use Rattle.tt_core.specs.Scales.{rounded_scale}
 use Rattle.tt_core.specs.Faults.{Fault}
@@ -43,7 +43,7 @@ abbrev pub is_end : ℤ → Bool
 is_end v = nat_le (unsigned_abs v) end_limit
 
 abbrev pub are_ends : PhantomPoints → Bool
-are_ends p = is_end p.left.0 && is_end p.right.0 && is_end p.ascent.1 && is_end p.descent.1
+are_ends p = is_end p.left.0 && (is_end p.right.0 && (is_end p.ascent.1 && is_end p.descent.1))
 
 abbrev pub moved_ends : PhantomPoints → EndDeltas → PhantomPoints
 moved_ends p d = record {
@@ -71,7 +71,7 @@ fine_ends s p d = record {
 
 -- the nearest number that a uint16 holds
 abbrev pub kept : ℤ → ℕ
-kept z = unsigned_abs (if int_lt z (pos 0) then pos 0 else (if int_lt (pos 65535) z then pos 65535 else z))
+kept z = unsigned_abs (int_max (pos 0) (int_min z (pos 65535)))
 
 -- an advance without HVAR: from end to end, to whole font units, a half up (profile)
 abbrev pub advance_by_ends : ℕ → EndDeltas → ℕ

@@ -1,6 +1,6 @@
 -- Apple TrueType Reference Manual, "Digitizing Letterform Designs": distances at an instance are scaled from 1/64 of a font
 -- unit. A scale whose factor is rounded first rounds twice, as FreeType does (profile).
-use Rattle.std.specs.Prelude.{◌≡◌, refl, ℕ, ◌*◌, ℤ, pos, negsuc, ◌+ℤ◌, ◌*ℤ◌, [], ◌∷◌, map}
+use Rattle.std.specs.Prelude.{◌≡◌, refl, ℕ, ℤ, pos, negsuc, ◌+ℤ◌, ◌*ℤ◌, [], ◌∷◌, map}
 use Rattle.std.specs.Int.{int_div_euclid}
 use Rattle.tt_core.specs.Numbers.{rounded_quotient}
 use Rattle.tt_core.specs.Scales.{away_quotient, control_value_scale, exact_scale, quotient, rounded_scale, scaled_by}

@@ -103,11 +103,13 @@ unfolding varied_glyph glyph_data_of points_by_all varied_along contour inferred
 the_left_end_alone = refl
 
 -- an empty glyph 0, whose right end moves by 64 units
-an_empty_glyph : (composite_deltas (of_one_axis
+abbrev empty_at_the_end : Result (PhantomPoints × ℕ) Fault
+empty_at_the_end = composite_deltas (of_one_axis
     (0 ∷ 1 ∷ 0 ∷ 0 ∷ 0 ∷ 1 ∷ 0 ∷ 1 ∷ 0 ∷ 0 ∷ 0 ∷ 28 ∷ 0 ∷ 3 ∷ 0 ∷ 0 ∷ 0 ∷ 0 ∷ 0 ∷ 30 ∷ 0 ∷ 0 ∷ 0 ∷ 8 ∷ 0 ∷ 8 ∷ 0 ∷ 8 ∷ 64 ∷ 0 ∷
     0 ∷ 1 ∷ 0 ∷ 10 ∷ 0 ∷ 6 ∷ 160 ∷ 0 ∷ 64 ∷ 0 ∷ 0 ∷ 128 ∷ 0 ∷ 64 ∷ 129 ∷ 131 ∷ [])) (pos 65536 ∷ []) 0 [] >>= λ v.
-    ends_in_units 0 (ends_to (pos 256)) (end_deltas false 0 v) >>= λ p. Ok (p, advance_by_ends 256 (end_deltas false 0 v)))
-    ≡ Ok (ends_to (pos 320), 320)
+    ends_in_units 0 (ends_to (pos 256)) (end_deltas false 0 v) >>= λ p. Ok (p, advance_by_ends 256 (end_deltas false 0 v))
+
+an_empty_glyph : empty_at_the_end ≡ Ok (ends_to (pos 320), 320)
 unfolding varied_glyph glyph_data_of points_by_all varied_along contour inferred tuples_of tuples_from tuple_at
     tuple_header_at header_at shared_points_of peak_at sides_at points_at listed_at count_at numbers_from next_number
     number_run_at deltas_from next_delta delta_run_at byte_in word_in signed_in slice_in share_after share_of_tuple_axis

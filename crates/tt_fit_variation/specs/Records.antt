@@ -1,7 +1,7 @@
 -- OpenType, "gvar", "Point numbers and processing for composite glyphs": the components of a glyph at an instance. A
 -- component with offsets is moved by whole font units, and its arguments stay int16 (profile). One that matches points
 -- stays.
-use Rattle.std.specs.Prelude.{◌≡◌, refl, ℕ, ◌+◌, ◌&&◌, if◌then◌else◌, ℤ, pos, negsuc, ◌+ℤ◌, List, [], ◌∷◌, Result, Ok, Err}
+use Rattle.std.specs.Prelude.{◌≡◌, refl, ℕ, ◌&&◌, if◌then◌else◌, ℤ, pos, negsuc, ◌+ℤ◌, List, [], ◌∷◌, Result, Ok, Err}
 use Rattle.tt_core.specs.Faults.{Fault}
 use Rattle.tt_core.specs.Outcomes.{◌>>=◌}
 use Rattle.tt_axes.specs.Rounding.{whole_units}

@@ -3,7 +3,7 @@ use Rattle.std.specs.Prelude.{List, map}
 use Rattle.tt_deltas.specs.Glyphs.{VariedPoints}
 use Rattle.tt_fit_variation.specs.declared.end.EndDeltas as deltas
 use Rattle.tt_fit_variation.specs.declared.varied_glyph.GlyphDeltas as glyph
-use Rattle.tt_fit_variation.specs.declared.points.InstancePoint as point
+use Rattle.tt_fit_variation.specs.declared.moved_point.InstancePoint as point
 use Rattle.tt_fit_variation.specs.Ends.{EndDeltas}
 use Rattle.tt_fit_variation.specs.Moved.{InstancePoint}
 

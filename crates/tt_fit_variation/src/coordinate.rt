@@ -32,7 +32,7 @@ pub(crate) fn unit(at: u32, v: i64) -> Result<i16, Fault>
 }
 
 /// A coordinate in whole units and scaled. Error: CoordRange, at this offset in glyf.
-#[tactic(auto, unfolding(crate::specs::Moved::moved_coordinate))]
+#[tactic(auto, using(crate::proofs::Near::unit_near), unfolding(crate::specs::Moved::moved_coordinate))]
 pub(crate) fn moved_coordinate(size: FontSize, at: u32, v: Varied) -> Result<MovedCoordinate, Fault>
     requires { unsigned_abs v.delta ≤ 2 ^ 46 }
     ensures exact { Gives (λ c. (c.unit, c.place)) result (moved_coordinate (size_view size) at v) }

@@ -102,6 +102,7 @@ impl EndDeltas {
 }
 
 /// A phantom point's coordinate in 26.6 pixels.
+#[tactic(auto, using(crate::proofs::Near::end_near))]
 fn fine_end(scale: Scale, v: i32, delta: i64) -> i64
     requires scale { IsScale scale }
     requires delta { unsigned_abs delta ≤ 2 ^ 46 }

@@ -9,19 +9,12 @@ ghost use Rattle.tt_fit_variation.specs.Moved.{instance_places, instance_point, 
 ghost use Rattle.tt_fit_variation.specs.Views.{point_view, points_view};
 
 use crate::coordinate::moved_coordinate;
+use crate::moved_point::InstancePoint;
 use std::alloc::{AllocError, Global};
 use tt_core::{Fault, FontFault};
 use tt_deltas::Varied;
 use tt_fit_outline::FontSize;
 use tt_glyf::RawPoint;
-
-/// A point at an instance, in whole font units and in 26.6 pixels.
-#[derive(Clone, Copy)]
-pub struct InstancePoint {
-    pub unit: RawPoint,
-    pub place: (i32, i32, bool),
-    pub ghost within: { IsPoint place },
-}
 
 /// A point at an instance. Error: CoordRange, at this offset in glyf.
 #[tactic(auto, unfolding(crate::specs::Moved::instance_point))]

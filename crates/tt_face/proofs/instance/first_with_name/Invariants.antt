@@ -6,4 +6,4 @@ use Rattle.tt_face.proofs.instance.first_with_name.Given as goal
 -- the search over all instances is the search over the remaining ones
 abbrev pub invariant-loop-k : goal.invariant-loop-k
 invariant-loop-k l =
-    first_from (has_name l.dir l.fvar l.name) l.k (l.k-end - l.k) ≡ first_below (named_count l.fvar) (has_name l.dir l.fvar l.name)
+    first_from (has_name l.dir l.fvar l.name) l.k (l.count - l.k) ≡ first_below (named_count l.fvar) (has_name l.dir l.fvar l.name)

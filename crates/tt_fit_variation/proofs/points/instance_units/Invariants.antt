@@ -1,4 +1,4 @@
-use Rattle.std.proofs.Common.{◌≡◌, length, take, All}
+use Rattle.std.proofs.Common.{◌≡◌, length, take}
 use Rattle.tt_fit_variation.specs.Moved.{instance_units}
 use Rattle.tt_fit_variation.specs.Views.{points_view}
 use Rattle.tt_fit_variation.proofs.points.instance_units.Given as goal
