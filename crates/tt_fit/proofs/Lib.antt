@@ -1,4 +1,4 @@
-pub mod Beginning
+pub mod Beginnings
 pub mod Counts
 pub mod DeltaCounts
 pub mod Hintings

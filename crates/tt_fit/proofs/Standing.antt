@@ -15,7 +15,7 @@ use Rattle.tt_fit_hinting.specs.GlyphZone.{GlyphProgram}
 use Rattle.tt_fit.specs.Laws.{OutlinesAreWhole, OutlineFaultsStand}
 use Rattle.tt_fit_outline.specs.Outline.{Outline}
 use Rattle.tt_fit_hinting.specs.Hinting.{Hinting, hinted}
-use Rattle.tt_fit.proofs.Beginning.{begun-broke, begun-whole}
+use Rattle.tt_fit.proofs.Beginnings.{begun-broke, begun-whole}
 use Rattle.tt_fit.proofs.GlyphPrograms.{hinted-broke, hinted-whole}
 use Rattle.tt_fit.proofs.Placing.{placing-broke, placing-whole}
 

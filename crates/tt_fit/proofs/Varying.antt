@@ -100,7 +100,7 @@ abbrev OneLeaves : FontSize → Varied → Varied → Type 0
 OneLeaves z x y = IsCoordinateDefect z x ⊎ IsCoordinateDefect z y
 
 point-broke : (z : FontSize) (at : ℕ) (x y : Varied) (on : Bool) (f : Fault)
-    → instance_point z at (record { x = x; y = y; on = on }) ≡ Err f → OneLeaves z x y × (f ≡ coordinate_fault at)
+    → instance_point z at on x y ≡ Err f → OneLeaves z x y × (f ≡ coordinate_fault at)
 unfolding instance_point
 point-broke z at x y on f was = elim (was-err (moved_coordinate z at x) _ f was) [
   | inl here ↦ let bad = coordinate-broke z at x f here in (inl bad.0, bad.1)
@@ -111,7 +111,7 @@ point-broke z at x y on f was = elim (was-err (moved_coordinate z at x) _ f was)
 ]
 
 point-whole : (z : FontSize) (at : ℕ) (x y : Varied) (on : Bool) (made : InstancePoint)
-    → instance_point z at (record { x = x; y = y; on = on }) ≡ Ok made → OneLeaves z x y → ⊥
+    → instance_point z at on x y ≡ Ok made → OneLeaves z x y → ⊥
 unfolding instance_point
 point-whole z at x y on made was bad =
     let of_x = came-through (moved_coordinate z at x) _ made was in
@@ -127,7 +127,7 @@ points-broke z at [] xs ys f was = absurd cc
 points-broke z at (p ∷ ps) [] ys f was = absurd cc
 points-broke z at (p ∷ ps) (x ∷ xs) [] f was = absurd cc
 points-broke z at (p ∷ ps) (x ∷ xs) (y ∷ ys) f was =
-    elim (was-err (instance_point z at (record { x = x; y = y; on = p.on })) _ f was) [
+    elim (was-err (instance_point z at p.on x y) _ f was) [
       | inl first ↦
           let bad = point-broke z at x y p.on f first in
           (zero, p, x, y, refl, refl, refl, bad.0, bad.1)
@@ -146,12 +146,12 @@ points-whole-at z at [] xs ys made i p x y was of_p of_x of_y bad = absurd cc
 points-whole-at z at (q ∷ ps) [] ys made i p x y was of_p of_x of_y bad = absurd cc
 points-whole-at z at (q ∷ ps) (v ∷ xs) [] made i p x y was of_p of_x of_y bad = absurd cc
 points-whole-at z at (q ∷ ps) (v ∷ xs) (w ∷ ys) made zero p x y was of_p of_x of_y bad =
-    let first = came-through (instance_point z at (record { x = v; y = w; on = q.on })) _ made was in
+    let first = came-through (instance_point z at q.on v w) _ made was in
     let same_x : v ≡ x = cc in
     let same_y : w ≡ y = cc in
     point-whole z at v w q.on first.value first.first (rw (same_x, same_y) bad)
 points-whole-at z at (q ∷ ps) (v ∷ xs) (w ∷ ys) made (suc i) p x y was of_p of_x of_y bad =
-    let first = came-through (instance_point z at (record { x = v; y = w; on = q.on })) _ made was in
+    let first = came-through (instance_point z at q.on v w) _ made was in
     let rest = came-through (instance_points z at ps xs ys) _ made first.rest in
     points-whole-at z at ps xs ys rest.value i p x y rest.first of_p of_x of_y bad
 

@@ -1,13 +1,10 @@
 //! A glyph that is begun: its own points in their places, its components and its program. OpenType, "The 'glyf' table".
 
-ghost use Rattle.std.specs.Prelude.{◌≡◌, ◌+◌, ◌<◌, ◌≤◌, ◌^◌, length, All};
+ghost use Rattle.std.specs.Prelude.{◌+◌, ◌<◌, ◌≤◌, ◌^◌, length, All};
 ghost use Rattle.tt_core.specs.Limits.{component_limit, point_limit};
-ghost use Rattle.tt_fit.specs.Views.{own_program_view};
-ghost use Rattle.tt_fit_hinting.specs.Views.{program_view};
 ghost use Rattle.tt_glyf.specs.Meaning.{AreEnds, HasArguments};
 
-use tt_fit_hinting::GlyphProgram;
-use tt_fit_outline::{Grid, Outline, PhantomUnits, Units};
+use tt_fit_outline::{Grid, Outline, PhantomUnits};
 use tt_glyf::{RawPoint, Record};
 
 /// The data of a simple glyph, in font units as in the file.
@@ -60,28 +57,6 @@ pub(crate) struct OwnProgram<'a> {
     /// The font units in which originals are measured; None for 26.6.
     pub(crate) units: Option<OwnUnits>,
     pub(crate) ghost fits: { code_at + length code.now < 2 ^ 32 },
-}
-
-impl<'a> OwnProgram<'a> {
-    /// The program, which borrows its units.
-    pub(crate) fn borrowed(&self) -> GlyphProgram<'a, '_>
-        ensures { program_view result ≡ own_program_view self.now }
-    {
-        let units = match &self.units {
-            Some(own) => Some(Units {
-                points: own.points.as_slice(),
-                phantom: own.phantom,
-            }),
-            None => None,
-        };
-        GlyphProgram {
-            code: self.code,
-            code_at: self.code_at,
-            glyph_at: self.glyph_at,
-            grid: self.grid,
-            units,
-        }
-    }
 }
 
 /// A glyph that is begun.

@@ -3,6 +3,7 @@
 
 mod beginning;
 mod begun;
+mod borrowing;
 mod control_values;
 mod counting;
 mod delta_counting;

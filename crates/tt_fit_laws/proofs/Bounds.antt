@@ -144,7 +144,7 @@ points-size z at [] xs ys made was = let same : [] ≡ made = cc in rw (← same
 points-size z at (p ∷ ps) [] ys made was = let same : [] ≡ made = cc in rw (← same) (omega arith)
 points-size z at (p ∷ ps) (x ∷ xs) [] made was = let same : [] ≡ made = cc in rw (← same) (omega arith)
 points-size z at (p ∷ ps) (x ∷ xs) (y ∷ ys) made was =
-    let first = came-through (instance_point z at (record { x = x; y = y; on = p.on })) _ made was in
+    let first = came-through (instance_point z at p.on x y) _ made was in
     let rest = came-through (instance_points z at ps xs ys) _ made first.rest in
     let few = points-size z at ps xs ys rest.value rest.first in
     let same : first.value ∷ rest.value ≡ made = let done = rest.rest in cc in

@@ -235,10 +235,12 @@ all s = chain (header_at s.store (header_place s.store.table)) _ (store-header s
     (λ shared. tuples s shared.value h.tuples (header_place s.store.table + 4) shared.next))
 
 -- a glyph's deltas
+bad-entry : (v : Gvar) (g : ℕ) → Breaks {X = Option GlyphData} (Err (entry_fault v.table g))
+bad-entry v g f was = let same : entry_fault v.table g ≡ f = cc in rw (← same) refl
+
 entry : (v : Gvar) (g : ℕ) → Breaks (glyph_data_of v g)
 unfolding glyph_data_of
-entry v g = either _ _ _ (done None) (either _ _ _
-    (λ f was. let same : entry_fault v.table g ≡ f = cc in rw (← same) refl) (done _))
+entry v g = either _ _ _ (done None) (either _ _ _ (bad-entry v g) (done _))
 
 by-all : (ends : List ℕ) (v : VariedPoints) (x : Result (List Tuple) Fault) → Breaks x → Breaks (points_by_all ends v x)
 unfolding points_by_all

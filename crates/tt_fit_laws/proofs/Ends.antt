@@ -9,6 +9,7 @@ use Rattle.tt_glyf.specs.Loca.{glyph_offset}
 use Rattle.tt_glyf.specs.GlyphData.{glyph_data_of}
 use Rattle.tt_glyf.specs.Raw.{Raw, SimpleGlyph, simple}
 use Rattle.tt_glyf.specs.declared.raw.RawPoint.{RawPoint}
+use Rattle.tt_glyf.specs.declared.raw.Record.{Record}
 use Rattle.tt_deltas.specs.Glyphs.{VariedPoints}
 use Rattle.tt_face.specs.Faces.{FaceInstance}
 use Rattle.tt_fit.specs.Fitting.{Begun, Fitter, size_of, start, glyph_grid, simple_start, joined, simple_begun, default_phantom, default_units, begun_by_default, units_at, fine_phantom, fine_start, simple_moved, simple_varied, begun_varied, begun_by, begun_glyph, finished, made, added, glyph_fitter, fitted_outline}
@@ -154,6 +155,10 @@ bare : (s : Fitter) (g : ℕ) (d : SimpleGlyph) (b : Begun) → glyph_grid s ≡
 unfolding begun_glyph
 bare s g d b up none was = bare-by s.instance s g d b up none was
 
+none-joined : (add : Record → Outline → Result Outline Fault) (rs : List Record) (o all : Outline) → rs ≡ []
+    → joined add rs o ≡ Ok all → o ≡ all
+none-joined add rs o all none was = let same : ◌≡◌ {A = Result Outline Fault} (Ok o) (Ok all) = rw none at was in cc
+
 pub simple-steps-are-whole : SimpleStepsAreWhole
 unfolding fitted_outline
 simple-steps-are-whole s g d o grid on read none was =
@@ -163,7 +168,7 @@ simple-steps-are-whole s g d o grid on read none was =
     let b = came-through (begun_glyph t g (simple d)) (finished t (added t s.levels)) o by_start in
     let is = bare t g d b.value up none b.first in
     let all = came-through (joined (added t s.levels) b.value.records b.value.outline) _ o b.rest in
-    let alone : ◌≡◌ {A = Result Outline Fault} (Ok b.value.outline) (Ok all.value) = rw is.records at all.first in
-    let one : b.value.outline.phantom ≡ all.value.phantom = cc in
+    let alone = none-joined (added t s.levels) b.value.records b.value.outline all.value is.records all.first in
+    let one = ap (λ (p : Outline). p.phantom) alone in
     let two = empty-ends t.hinting b.value.program all.value o is.code all.rest in
     steps-by o b.value.outline.phantom (one ∙ two) is.ends

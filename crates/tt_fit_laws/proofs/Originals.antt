@@ -109,18 +109,28 @@ zone-scaled how ppem em z at m x_min g ds o grid rounded by are =
     (phantom-scaled ppem em z m x_min g o.phantom grid by are.phantom))
 
 -- a simple glyph with a program, by the font's default
+begun-none-by : (instance : Option FaceInstance) (s : Fitter) (g : ℕ) (d : Raw) (b : Begun) → instance ≡ None
+    → begun_by instance s g d ≡ Ok b → begun_by_default s g d ≡ Ok b
+begun-none-by None s g d b none was = was
+begun-none-by (Some i) s g d b none was = absurd cc
+
 begun-none : (s : Fitter) (g : ℕ) (d : Raw) (b : Begun) → s.instance ≡ None → begun_glyph s g d ≡ Ok b
     → begun_by_default s g d ≡ Ok b
 unfolding begun_glyph
-begun-none s g d b none was = rw none at was
+begun-none s g d b none was = begun-none-by s.instance s g d b none was
+
+not-bare-by : (bare : Bool) (x : Result Outline Fault) (first o : Outline) → bare ≡ false
+    → (if bare then x else Ok first) ≡ Ok o → first ≡ o
+not-bare-by true x first o some was = absurd cc
+not-bare-by false x first o some was = cc
 
 not-bare : (s : Fitter) (phantom : PhantomPoints) (g : ℕ) (code : List ℕ) (o : Outline) → (length code == 0) ≡ false
     → simple_start s phantom g code ≡ Ok o → start s phantom g ≡ Ok o
 unfolding simple_start
 not-bare s phantom g code o some was =
     let first = came-through (start s phantom g) _ o was in
-    let same : ◌≡◌ {A = Result Outline Fault} (Ok first.value) (Ok o) = rw some at first.rest in
-    first.first ∙ same
+    let same = not-bare-by (length code == 0) _ first.value o some first.rest in
+    first.first ∙ ap Ok same
 
 pub originals-are-scaled : OriginalsAreScaled
 originals-are-scaled s g d b grid rounded none some was =

@@ -49,7 +49,7 @@ its_programs = record { cvt = 0 ∷ 100 ∷ 0 ∷ 200 ∷ 1 ∷ 44 ∷ []; fpgm 
 
 control_values : (begun_at (its_metrics 0) its_programs (Some (its_instance its_cvar)) 41 fit.Best).cvt
     ≡ pos 268 ∷ pos 500 ∷ pos 769 ∷ []
-unfolding varied_values values_by_all varied_along contour inferred tuples_of tuples_from tuple_at
+unfolding tuple_count varied_values values_by_all varied_along contour inferred tuples_of tuples_from tuple_at
     tuple_header_at header_at shared_points_of peak_at sides_at points_at listed_at count_at numbers_from
     next_number number_run_at deltas_from next_delta delta_run_at bytes.byte_in bytes.word_in
     bytes.signed_in bytes.slice_in share_after share_of_tuple_axis
@@ -58,7 +58,7 @@ control_values = refl
 -- a delta is missing: no value moves
 cut_cvar : (begun_at (its_metrics 0) its_programs (Some (its_instance (0 ∷ 1 ∷ 0 ∷ 0 ∷ 0 ∷ 1 ∷ 0 ∷ 14 ∷ 0 ∷ 5 ∷ 160 ∷ 0 ∷ 64 ∷ 0 ∷ 0 ∷ 1 ∷ 7 ∷ 249 ∷ []))) 41 fit.Best).cvt
     ≡ pos 256 ∷ pos 513 ∷ pos 769 ∷ []
-unfolding varied_values values_by_all varied_along contour inferred tuples_of tuples_from tuple_at
+unfolding tuple_count varied_values values_by_all varied_along contour inferred tuples_of tuples_from tuple_at
     tuple_header_at header_at shared_points_of peak_at sides_at points_at listed_at count_at numbers_from
     next_number number_run_at deltas_from next_delta delta_run_at bytes.byte_in bytes.word_in
     bytes.signed_in bytes.slice_in share_after share_of_tuple_axis

@@ -1,4 +1,4 @@
-use Rattle.std.proofs.Common.{◌≡◌, map, SFits, w16, w32, rules, refl}
+use Rattle.std.proofs.Common.{◌≡◌, map, SFits, w32, rules, refl}
 use Rattle.std.specs.Prelude.{option_map}
 use Rattle.std.proofs.lemmas.Int.{to_z-of_z}
 use Rattle.tt_fit_hinting.specs.GlyphZone.{outline_point}
@@ -15,19 +15,15 @@ returns-clause-exact c =
     let places = c.phantom_places-places.result in
     let left : SFits w32 places.left = search rules in
     let right : SFits w32 places.right = search rules in
-    let ascent : SFits w32 c.from.result = search rules in
-    let descent : SFits w32 c.from-2.result = search rules in
-    let ascent_fits : SFits w16 places.ascent = search rules in
-    let descent_fits : SFits w16 places.descent = search rules in
-    let ascent_is = simp to_z-of_z at c.from.ensures in
-    let descent_is = simp to_z-of_z at c.from-2.ensures in
+    let ascent : SFits w32 places.ascent = search rules in
+    let descent : SFits w32 places.descent = search rules in
     rw (← c.phantom_places-places.ensures, ← placed)
     (four_pushed c.put_units.new.zone.items c.push.new.self.items c.push-2.new.self.items c.push-3.new.self.items
     c.push-4.new.self.items _ _ _ _
     (simp to_z-of_z at (rw c.phantom_point.ensures.exact at c.in_ok-push.ensures.items))
     (simp to_z-of_z at (rw c.phantom_point-2.ensures.exact at c.in_ok-push-2.ensures.items))
-    (rw ascent_is at simp to_z-of_z at (rw c.phantom_point-3.ensures.exact at c.in_ok-push-3.ensures.items))
-    (rw descent_is at simp to_z-of_z at (rw c.phantom_point-4.ensures.exact at c.in_ok-push-4.ensures.items)))
+    (simp to_z-of_z at (rw c.phantom_point-3.ensures.exact at c.in_ok-push-3.ensures.items))
+    (simp to_z-of_z at (rw c.phantom_point-4.ensures.exact at c.in_ok-push-4.ensures.items)))
 
 pub returns-clause-valid : goal.returns-clause-valid
 returns-clause-valid c =
