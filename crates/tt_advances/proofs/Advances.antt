@@ -111,5 +111,5 @@ found_whole face gs was = λ fault defect.
       | inr of_glyph ↦
           let P : Result Glyf Fault → Type 0 = λ r. IsOkAnd r (λ t. RefusesOne (glyph_units face.instance face.metrics t) gs fault) in
           let one = subst P by_tables.first of_glyph in
-          none_refused (glyph_units face.instance face.metrics by_tables.value) gs fault by_tables.rest one.0 one.1 one.2.0 one.2.1
+          none_refused (glyph_units face.instance face.metrics by_tables.value) gs fault by_tables.rest one.0 one.1 one.2 one.3
     ]

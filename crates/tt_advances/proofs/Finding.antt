@@ -1,5 +1,5 @@
 -- What finding the advances of some glyphs gives, by the glyph data of a face.
-use Rattle.std.proofs.Common.{◌≡◌, ◌∙◌, refl, sym, ap, ℕ, true, List, [], ◌∷◌, ◌++◌, map, Result, Ok, Err, inl, OnOk}
+use Rattle.std.proofs.Common.{◌≡◌, ◌∙◌, refl, sym, ap, ap₂, ℕ, true, List, [], ◌∷◌, ◌++◌, map, Result, Ok, Err, inl, OnOk}
 use Rattle.std.specs.Prelude.{IfSome}
 use Rattle.tt_advances.specs.Defects.{IsAdvanceDefect}
 use Rattle.tt_advances.specs.Found.{advances_tested, all_found, glyph_units, or_zero, units_of}
@@ -52,10 +52,11 @@ tells_here face t gs (Err (fault.Font f)) finds there gives = refused_tells face
 
 -- each glyph with its advance, by the data that are open and by the face
 same_pairs : (face : Face) (t : Glyf) (gs : List ℕ) → glyphs_in face ≡ Ok t
-    → map (λ g. (g, or_zero (glyph_units face.instance face.metrics t g))) gs ≡ map (λ g. (g, units_of face g)) gs
+    → map {B = ℕ × ℕ} (λ g. (g, or_zero (glyph_units face.instance face.metrics t g))) gs ≡ map {B = ℕ × ℕ} (λ g. (g, units_of face g)) gs
 unfolding units_of
 same_pairs face t [] there = refl
-same_pairs face t (g ∷ gs) there = rw (units_by_tables face t g there, same_pairs face t gs there) refl
+same_pairs face t (g ∷ gs) there =
+    ap₂ (λ (units : ℕ) (rest : List (ℕ × ℕ)). (g, units) ∷ rest) (ap or_zero (sym (units_by_tables face t g there))) (same_pairs face t gs there)
 
 pub units_here : (face : Face) (t : Glyf) (gs : List ℕ) (line : List (ℕ × ℕ)) (r : Result (Unit {0}) FontFault) → glyphs_in face ≡ Ok t
     → OnOk r (line ≡ map (λ g. (g, or_zero (glyph_units face.instance face.metrics t g))) gs)
@@ -107,7 +108,7 @@ pub before_value : {Y : Type 0} (x : Result (Unit {0}) Fault) (y : Y) (e : FontF
     → IfSome (font_fault e) (λ f. x ≡ Err f)
 before_value x y fault.Memory fails = tt
 before_value (Ok u) y (fault.Font f) fails = absurd cc
-before_value (Err g) y (fault.Font f) fails = fails
+before_value (Err g) y (fault.Font f) fails = let same : g ≡ f = cc in ap Err same
 
 pub then_value : {Y : Type 0} (x : Result (Unit {0}) Fault) (y : Y) (e : FontFault) → IfSome (font_fault e) (λ f. x ≡ Err f)
     → IfSome (font_fault e) (λ f. (x >>= λ u. Ok y) ≡ Err f)

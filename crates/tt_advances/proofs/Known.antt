@@ -20,7 +20,7 @@ found_pair found p = (p.0, or_zero (found p.0))
 -- what holds for all numbers but one, and for a new number in its place
 pub all_but_one : (P : ℕ → ℕ → Type 0) (xs : List ℕ) (i v : ℕ) → ((g : ℕ) → P g (slice_index xs g)) → P i v → i < length xs
     → (g : ℕ) → P g (slice_index (set xs i v) g)
-all_but_one P [] i v all here under g = absurd (omega under)
+all_but_one P [] i v all here under g = absurd (omega (arith, under))
 all_but_one P (x ∷ xs) zero v all here under zero = here
 all_but_one P (x ∷ xs) zero v all here under (suc g) = all (suc g)
 all_but_one P (x ∷ xs) (suc i) v all here under zero = all zero
@@ -29,7 +29,8 @@ all_but_one P (x ∷ xs) (suc i) v all here under (suc g) =
 
 -- a table of zeros has no advances
 zeros : (P : ℕ → ℕ → Type 0) (n : ℕ) → ((g : ℕ) → P g 0) → (g : ℕ) → P g (slice_index (replicate n 0) g)
-zeros P zero all g = all g
+zeros P zero all zero = all zero
+zeros P zero all (suc g) = all (suc g)
 zeros P (suc n) all zero = all zero
 zeros P (suc n) all (suc g) = zeros (λ (n m : ℕ). P (suc n) m) n (λ g. all (suc g)) g
 
@@ -48,7 +49,7 @@ one_known f known g n so_far small is under =
 -- an advance that is kept
 pub known_is : (f : Finder) (g k : ℕ) → IsFoundAt f g k → 0 < k
     → (k < 2 ^ 16 + 1) × (glyph_units f.face.instance f.face.metrics f.tables g ≡ Ok (k - 1))
-known_is f g zero is some = absurd (omega some)
+known_is f g zero is some = absurd (omega (arith, some))
 known_is f g (suc n) is some =
     let less : suc n - 1 ≡ n = omega arith in
     (omega (arith, is.0), rw less is.1)

@@ -1,6 +1,6 @@
 -- OpenType, "gvar" (phantom points): the advances of a face in font units. At an instance of a font without HVAR an
 -- advance goes from end to end of the glyph's own data. Then these are read, and can be refused (profile).
-use Rattle.std.specs.Prelude.{◌≡◌, refl, ℕ, Bool, is_some, if◌then◌else◌, List, [], ◌∷◌, map, Option, Some, None, Result, Ok, Err}
+use Rattle.std.specs.Prelude.{◌≡◌, refl, ℕ, Bool, ◌==◌, is_some, if◌then◌else◌, List, [], ◌∷◌, map, Option, Some, None, Result, Ok, Err}
 use Rattle.tt_core.specs.Faults.{Fault}
 use Rattle.tt_core.specs.Outcomes.{◌>>=◌}
 use Rattle.tt_face.specs.Faces.{Face, FaceInstance, finds_advances, glyphs_in}
@@ -43,7 +43,7 @@ advances_tested face gs =
     if finds_advances face then (glyphs_in face >>= λ t. all_found (glyph_units face.instance face.metrics t) gs) else Ok tt
 
 -- worked values: the first fault is that of the first glyph, whichever glyph is refused later
-the_first_is_refused : (f e : Fault) → all_found (λ g. if◌then◌else◌ {A = Result ℕ Fault} (is_some {A = ℕ} None) (Ok g) (Err f)) (1 ∷ 2 ∷ []) ≡ Err f
+the_first_is_refused : (f e : Fault) → all_found (λ g. if g == 1 then Err f else Err e) (1 ∷ 2 ∷ []) ≡ Err f
 the_first_is_refused f e = refl
 
 nothing_to_find : (f : Fault) → all_found (λ g. Err f) [] ≡ Ok tt

@@ -65,11 +65,13 @@ impl<'f, 'a> FoundAdvances<'f, 'a> {
         ensures same { self.new ≡ self.old }
     {
         let place = usize::from(glyph);
-        if self.known[place] == 0 {
+        let kept = self.known[place];
+        if kept == 0 {
             let units = glyph_units(self.alloc, self.face, &self.glyf, glyph)?;
             self.known[place] = u32::from(units) + 1;
+            return Ok(units);
         }
-        Ok((self.known[place] - 1) as u16)
+        Ok((kept - 1) as u16)
     }
 
     /// Puts its advance in font units beside each glyph of a line. Errors, of the first glyph that has one: those of

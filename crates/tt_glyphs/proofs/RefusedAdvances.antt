@@ -64,11 +64,11 @@ advances_made face a s gs there none = λ f defect. elim defect.1 [
       let g = one.1 in
       let t = line_fitter s gs g in
       let alike = work-is-apart s t (maker_alike s gs g) in
-      let fails : glyph_units face.instance face.metrics t.tables g ≡ Err f = rw alike.tables one.2.1 in
+      let fails : glyph_units face.instance face.metrics t.tables g ≡ Err f = rw alike.tables one.3 in
       let outline = not_made face.instance face.metrics t g f defect.0 (alike.instance ∙ source.2) fails in
-      let below = slice_get_within gs one.0 g one.2.0 in
+      let below = slice_get_within gs one.0 g one.2 in
       let read = slice_get-get_or gs one.0 0 below in
-      let there_is = one.2.0 in
+      let there_is = one.2 in
       let number : slice_index gs one.0 ≡ g = cc in
       none f (inr (rw there (one.0, below, rw number (faults-stand t g f outline))))
 ]

@@ -1,4 +1,4 @@
-use Rattle.std.proofs.Common.{◌≡◌, ◌∙◌, ap, ap₂, sym, ℕ, ◌+◌, ◌<◌, ◌≤◌, List, drop, get_or, length, map, refl, SFits, w32, arith}
+use Rattle.std.proofs.Common.{◌≡◌, ◌∙◌, ap, ap₂, sym, ℕ, ◌+◌, ◌<◌, ◌≤◌, ◌^◌, List, drop, get_or, length, map, refl, SFits, w32, arith}
 use Rattle.std.proofs.lemmas.Int.{ints, to_z-of_z}
 use Rattle.tt_label_rows.proofs.SteppedUnits.{all_stepped, as_many, line_glyph, line_rest, one_stepped, own_advance}
 use Rattle.tt_label_rows.specs.Units.{unit_glyphs}
@@ -10,6 +10,12 @@ pub kerning_at-kerning-requires : goal.kerning_at-kerning-requires
 kerning_at-kerning-requires c =
     let many = as_many c.args.units.now c.args.line.now c.requires.line in
     omega (arith, many, c.loop-i-test.true)
+
+pub overflow_cast-own : goal.overflow_cast-own
+overflow_cast-own c =
+    let many = as_many c.args.units.now c.args.line.now c.requires.line in
+    let small : (get_or c.args.line.now c.loop-i.i (0, 0)).1 < 2 ^ 16 = c.requires.bound c.loop-i.i (0, 0) (omega (arith, many, c.loop-i-test.true)) in
+    omega (arith, small)
 
 pub loop-i-init : goal.loop-i-init
 loop-i-init c = λ advance are. rw c.in_ok-made.ensures.items refl

@@ -1,4 +1,4 @@
-use Rattle.std.proofs.Common.{◌≡◌, ◌∙◌, ap, ℕ, ◌+◌, ◌<◌, ◌≤◌, List, sym, drop, get_or, length, map, SFits, w32, of_z, to_z, refl, arith, rules}
+use Rattle.std.proofs.Common.{◌≡◌, ◌∙◌, ap, ℕ, ◌+◌, ◌<◌, ◌≤◌, ◌^◌, List, sym, drop, get_or, length, map, SFits, w32, of_z, to_z, refl, arith, rules}
 use Rattle.std.proofs.lemmas.Int.{to_z-of_z}
 use Rattle.std.proofs.lemmas.List.{drop-drop, drop-set-lt, drop_more, get_or-map, length-map, length-set}
 use Rattle.tt_line.specs.Steps.{kerning_before, step_by_units}
@@ -39,6 +39,12 @@ read_is c =
     let below : c.loop-i.i < length c.args.line.now = omega (arith, c.loop-i-test.true) in
     let many = c.loop-i.invariant.count in
     first_left c.loop-i.line c.args.line.now c.loop-i.i c.loop-i.invariant.rest (omega (arith, below, many)) below
+
+pub overflow_cast-units : goal.overflow_cast-units
+overflow_cast-units c =
+    let below : c.loop-i.i < length c.args.line.now = omega (arith, c.loop-i-test.true) in
+    let small : (get_or c.args.line.now c.loop-i.i (0, 0)).1 < 2 ^ 16 = c.requires.units c.loop-i.i (0, 0) below in
+    rw (read_is (goal.at.overflow_cast-units c).After-kerning_at-kerning) (omega (arith, small))
 
 pub loop-i-preserved : goal.loop-i-preserved
 unfolding step_here

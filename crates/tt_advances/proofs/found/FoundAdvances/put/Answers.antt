@@ -7,7 +7,7 @@ use Rattle.tt_advances.proofs.Known.{all_placed, all_tested, first_left, later_l
 use Rattle.tt_advances.proofs.found.FoundAdvances.put.Goals as goal
 
 pub loop-i-init : goal.loop-i-init
-loop-i-init c = record { same = refl; count = refl; rest = refl; placed = refl; bound = All-nil; tested = refl }
+loop-i-init c = record { same = refl; count = refl; rest = refl; placed = refl; bound = All-nil (λ (p : ℕ × ℕ). p.1 < 2 ^ 16); tested = refl }
 
 pub loop-i-preserved : goal.loop-i-preserved
 loop-i-preserved c =
@@ -23,7 +23,7 @@ loop-i-preserved c =
     let read : get_or line i (0, 0) ≡ get_or ps i (0, 0) = first_left line ps i was.rest under below in
     let is : found (get_or ps i (0, 0)).0 ≡ Ok c.in_ok-units.units = rw (was.same, read) at c.in_ok-units.ensures.exact in
     let next = one_more_tested found ps i (all_found found (numbers ps)) below was.tested in
-    let small : c.in_ok-units.units < 2 ^ 16 = omega (arith, c.ranges.units) in
+    let small : c.in_ok-units.units < 2 ^ 16 = rw c.in_ok-units.was at c.units.type_inv in
     rw c.from.ensures (record {
       same = c.in_ok-units.ensures.same ∙ was.same;
       count = length-set line i _ ∙ was.count;

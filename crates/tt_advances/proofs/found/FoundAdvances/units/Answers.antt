@@ -1,4 +1,17 @@
-use Rattle.std.proofs.Common.{◌≡◌, ◌∙◌, ap, sym, ℕ, ◌+◌, ◌-◌, ◌<◌, ◌^◌, length, get_or, set, slice_index, arith}
-use Rattle.std.proofs.lemmas.List.{get_or-set_same, get_or_default}
-use Rattle.tt_advances.proofs.Known.{known_is, one_known}
+use Rattle.std.proofs.Common.{◌∙◌, ◌+◌, ◌<◌, ◌^◌, length, arith}
+use Rattle.std.proofs.lemmas.List.{length-set}
+use Rattle.tt_advances.specs.Views.{Finder}
+use Rattle.tt_advances.proofs.Known.{one_known}
 use Rattle.tt_advances.proofs.found.FoundAdvances.units.Goals as goal
+
+-- the new advance is kept
+pub invariant_of-self : goal.invariant_of-self
+invariant_of-self c =
+    let held = c.self.inside in
+    let was = c.self.invariant in
+    let f : Finder = record { face = held.face.now; tables = held.glyf } in
+    let small : c.in_ok-units.units < 2 ^ 16 = rw c.in_ok-units.was at c.glyph_units.type_inv in
+    let asked = rw (← c.self.view_is) at c.requires in
+    let below : c.args.glyph < length held.known.items = omega (arith, asked, was.0, was.1) in
+    rw (c.from-place.ensures, c.from.ensures) (was.0, length-set held.known.items c.args.glyph (c.in_ok-units.units + 1) ∙ was.1,
+    one_known f held.known.items c.args.glyph c.in_ok-units.units was.2 small c.in_ok-units.ensures.exact below)

@@ -11,4 +11,4 @@ returns-then-finds_advances c = (c.requires.at (rw c.finds_advances.ensures at c
 pub returns : goal.returns
 returns c =
     let plain = plain_advances c.args.self.now.face (rw c.finds_advances.ensures at c.if-finds_advances.false) in
-    rw (c.metrics.ensures, c.face.ensures) at c.advance.ensures ∙ sym (plain.units c.args.glyph)
+    (rw (c.metrics.ensures, c.face.ensures) at c.advance.ensures) ∙ sym (plain.units c.args.glyph)
