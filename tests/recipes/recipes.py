@@ -12,7 +12,6 @@ import markdown
 # files that have it for another reason.
 EXAMPLES = {
     "An opcode on the stack": (r"\b(ROLL|Roll|roll)\b",),
-    "An opcode on points": (r"\b(SHPIX|Shpix|shpix)\b|shpix_",),
     "A refusal of a font": (r"ScaledOffset|scaled_offset|\bis_limit\b|\bPLACES_OF_FACE\b",),
     "An option of the command": (r'--missing|"missing"|MISSING_WORDS|Missing::|enum Missing|\\-missing',),
     "A call of the C library": (r"tt_characters|CCharacter",),
