@@ -12,25 +12,9 @@ import markdown
 # files that have it for another reason.
 EXAMPLES = {
     "An opcode on the stack": (r"\b(ROLL|Roll|roll)\b",),
-    "An opcode on points": (r"\b(SHPIX|Shpix|shpix)\b|shpix_",),
-    # The greatest bend of a curve, in 1/128 pixel, is the same number.
-    "The value of a limit": (r"67[,_]?108[,_]?864", "crates/tt_arc/specs/Examples.antt"),
-    # The last words are where formats that are not read are listed.
-    "A format of cmap": (r"[Ff]ormat ?12|format12|format 4 or 12|format \{number\} is passed over",),
-    "A member of `Fit`": (r'Fit::Best|\bBest\b|TT_BEST|"best"|fit best|FITS',),
     "A refusal of a font": (r"ScaledOffset|scaled_offset|\bis_limit\b|\bPLACES_OF_FACE\b",),
     "An option of the command": (r'--missing|"missing"|MISSING_WORDS|Missing::|enum Missing|\\-missing',),
-    "An option that changes pixels": (
-        r"--height\b|\\-height\b|\bHeights::|\bheights\.(Exact|Rounded)\b|\bLineRules\b|\bheights_asked\b"
-        r"|\brounded(: bool|: u32|=u32|=bool)|uint32_t rounded"
-        r"|\bkerned_step\b|\bkerning_at\b",
-    ),
     "A call of the C library": (r"tt_characters|CCharacter",),
-    # These only draw pictures so.
-    "A product": (r"grown_line|grown_outcome|-grow\b", "tests/dist", "tests/package", "bindings"),
-    # Programs of other libraries read hhea by themselves, and so does fontTools.
-    "A table": (r"\bhhea\b|Hhea", "bench", "tests/*_freetype.c", "tests/hinted/try_all"),
-    "A test": (r"tests/measure|measure/run|LONGEST_FIRST",),
 }
 
 # What is named before the recipes, for all of them: each change may break a promise, and is noticed.

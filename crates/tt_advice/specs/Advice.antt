@@ -1,10 +1,13 @@
 -- No part of the standard: the advice to people about a refused font (profile). It is a function of the fault, of the
 -- file's bytes and of the face's number.
-use Rattle.std.specs.Prelude.{◌≡◌, refl, ℕ, Bool, false, ◌||◌, ◌&&◌, ◌==◌, nat_le, if◌then◌else◌, List, [], ◌∷◌, ◌++◌, map, length, codes, bytes_eq, is_some, Option, Some, None, Result, Ok, Err}
+use Rattle.std.specs.Prelude.{◌≡◌, refl, ℕ, pos, Bool, false, ◌||◌, ◌&&◌, ◌==◌, nat_le, if◌then◌else◌, List, [], ◌∷◌, ◌++◌, map, length, codes, bytes_eq, is_some, Option, Some, None, Result, Ok, Err}
+use Rattle.tt_axes.specs.declared.values.AxisValue.{AxisValue}
+use Rattle.tt_axes.specs.Fvar.{fvar_in, fvar_of, weights}
+use Rattle.tt_axes.specs.Instances.{missing_axis, weight}
 use Rattle.tt_core.specs.Collections.{directory_by, face_offset, offset_of}
 use Rattle.tt_core.specs.declared.collection.Reading.TheVariants as reading
 use Rattle.tt_core.specs.declared.fault.Why.TheVariants as why
-use Rattle.tt_core.specs.Directory.{Directory, read_directory, record_of}
+use Rattle.tt_core.specs.Directory.{Directory, needed_table, read_directory, record_of, table_of}
 use Rattle.tt_core.specs.Faults.{Fault, fault_at, file_fault, why_number}
 use Rattle.tt_core.specs.Numbers.{number_at}
 use Rattle.tt_advice.specs.declared.hint.FixedHint.TheVariants as fixed
@@ -87,9 +90,28 @@ advice_by k f file n =
 unfoldable pub advice : Fault → List ℕ → ℕ → Hint
 advice f file n = advice_by (why_number f.why) f file n
 
--- the same for a request with axes: with the tag of an axis that is not there
-unfoldable pub axis_advice : Fault → List ℕ → ℕ → List ℕ → Hint
-axis_advice f file n tag = if why_number f.why == 27 then hint.NoAxis tag else advice f file n
+-- the tag of the first value without an axis, where fvar is whole
+abbrev pub lacking_in : List AxisValue → Result (List ℕ) Fault → Option (List ℕ)
+lacking_in axes (Ok fvar) = missing_axis fvar axes
+lacking_in axes (Err fault) = None
+
+-- the same by a directory that is read
+abbrev pub lacking_by : List AxisValue → Result Directory Fault → Option (List ℕ)
+lacking_by axes (Ok d) = lacking_in axes (fvar_of d)
+lacking_by axes (Err fault) = None
+
+-- the same of face n
+unfoldable pub lacking_axis : List ℕ → ℕ → List AxisValue → Option (List ℕ)
+lacking_axis file n axes = lacking_by axes (directory_by file (reading.Wide n))
+
+abbrev pub told_axis : Option (List ℕ) → Fault → Hint
+told_axis (Some tag) f = hint.NoAxis tag
+told_axis None f = hint.Damaged f
+
+-- the advice for a request that gives values to axes
+unfoldable pub axis_advice : Fault → List ℕ → ℕ → List AxisValue → Hint
+axis_advice f file n axes =
+    if why_number f.why == 27 then told_axis (lacking_axis file n axes) f else advice f file n
 
 -- worked values: a file with CFF outlines, an empty file and a file of one byte
 another_version : advice (file_fault 0 why.BadVersion) (codes "OTTO") 0 ≡ hint.Fixed fixed.Cff
@@ -136,11 +158,26 @@ of_other_faults : map (λ w. advice (fault_at (codes "glyf") 14 w) [] 0) (why.Co
 unfolding advice why_number
 of_other_faults = refl
 
+-- a font with weights alone, and values of a width, a slant and a weight
+abbrev variable : List ℕ
+variable =
+    (0 ∷ 1 ∷ 0 ∷ 0 ∷ 0 ∷ 1 ∷ 0 ∷ 0 ∷ 0 ∷ 0 ∷ 0 ∷ 0 ∷ [])
+    ++ (codes "fvar" ++ ((0 ∷ 0 ∷ 0 ∷ 0 ∷ 0 ∷ 0 ∷ 0 ∷ 28 ∷ 0 ∷ 0 ∷ 0 ∷ 36 ∷ []) ++ weights))
+
+abbrev value_of : List ℕ → AxisValue
+value_of tag = record (weight (pos 0)) { tag = tag }
+
+its_axes : map (lacking_axis variable 0)
+    ((weight (pos 0) ∷ value_of (codes "wdth") ∷ value_of (codes "slnt") ∷ []) ∷ (weight (pos 0) ∷ []) ∷ [])
+    ≡ Some (codes "wdth") ∷ None ∷ []
+unfolding lacking_axis directory_by offset_of face_offset read_directory fvar_of fvar_in needed_table table_of
+its_axes = refl
+
 -- an instance
-of_instances : map (λ f. axis_advice f [] 0 (codes "wdth"))
+of_instances : map (λ f. axis_advice f variable 0 (value_of (codes "wdth") ∷ []))
     (fault_at (codes "fvar") 0 why.NoTable ∷ fault_at (codes "fvar") 8 why.NoAxis ∷ fault_at (codes "fvar") 12 why.NoInstance
     ∷ fault_at (codes "gvar") 0 why.VariationShape ∷ fault_at (codes "gvar") 20 why.GlyphVariation ∷ [])
     ≡ hint.Fixed fixed.NotVariable ∷ hint.NoAxis (codes "wdth") ∷ hint.Fixed fixed.NoInstance
     ∷ hint.Damaged (fault_at (codes "gvar") 0 why.VariationShape) ∷ hint.Damaged (fault_at (codes "gvar") 20 why.GlyphVariation) ∷ []
-unfolding advice axis_advice why_number
+unfolding advice axis_advice lacking_axis directory_by offset_of face_offset read_directory fvar_of fvar_in needed_table table_of why_number
 of_instances = refl

@@ -1,12 +1,13 @@
 //! The advice to people about a refused font.
 
 ghost use Rattle.std.specs.Prelude.{◌≡◌, ◌≤◌, is_some, length};
-ghost use Rattle.tt_advice.specs.Advice.{advice, axis_advice, count_advice, cut_advice, face_advice, has_cff, has_pictures, has_record, is_limit, lack_advice, plain_advice, version_advice};
+ghost use Rattle.tt_advice.specs.Advice.{advice, axis_advice, count_advice, cut_advice, face_advice, has_cff, has_pictures, has_record, is_limit, lack_advice, lacking_axis, plain_advice, told_axis, version_advice};
 ghost use Rattle.tt_core.specs.Directory.{record_of};
 ghost use Rattle.tt_core.specs.Limits.{font_limit};
 
 use crate::hint::{FixedHint, Hint};
 use crate::kinds::{begins, kind_at};
+use tt_axes::{AxisValue, Fvar};
 use tt_core::{Dir, Fault, Reading, u32_at};
 
 /// Whether a record of a directory has the tag.
@@ -72,7 +73,7 @@ fn count_advice(count: u32) -> Hint
     }
 }
 
-/// The advice about a file without the face that was asked for.
+/// The advice about a file without the requested face.
 #[tactic(auto, unfolding(crate::specs::Advice::face_advice))]
 fn face_advice(file: &[u8]) -> Hint
     ensures { result ≡ face_advice file.now }
@@ -164,14 +165,39 @@ pub fn advice(fault: Fault, file: &[u8], face: u32) -> Hint
     }
 }
 
-/// The advice about a font for a request with axes, by the tag of an axis that the font does not have.
-#[tactic(auto, unfolding(crate::specs::Advice::axis_advice))]
-pub fn axis_advice(fault: Fault, file: &[u8], face: u32, tag: [u8; 4]) -> Hint
+/// The tag of the first of these axes that a face lacks. None where the face has all, or no whole table fvar.
+#[tactic(auto, unfolding(crate::specs::Advice::lacking_axis))]
+fn lacking_axis(file: &[u8], face: u32, axes: &[AxisValue]) -> Option<[u8; 4]>
     requires { length file.now ≤ font_limit }
-    ensures { result ≡ axis_advice fault file.now face tag }
+    ensures { result ≡ lacking_axis file.now face axes.now }
+{
+    match Dir::read(file, Reading::Wide { face }) {
+        Ok(dir) => match Fvar::open(&dir) {
+            Ok(fvar) => fvar.missing_axis(axes),
+            Err(_) => None,
+        },
+        Err(_) => None,
+    }
+}
+
+/// The advice about a font without an axis of this tag.
+fn told_axis(tag: Option<[u8; 4]>, fault: Fault) -> Hint
+    ensures { result ≡ told_axis tag fault }
+{
+    match tag {
+        Some(tag) => Hint::NoAxis(tag),
+        None => Hint::Damaged(fault),
+    }
+}
+
+/// The advice about a font with this fault for a request that gives values to these axes.
+#[tactic(auto, unfolding(crate::specs::Advice::axis_advice))]
+pub fn axis_advice(fault: Fault, file: &[u8], face: u32, axes: &[AxisValue]) -> Hint
+    requires { length file.now ≤ font_limit }
+    ensures { result ≡ axis_advice fault file.now face axes.now }
 {
     if fault.why.number() == 27 {
-        Hint::NoAxis(tag)
+        told_axis(lacking_axis(file, face, axes), fault)
     } else {
         advice(fault, file, face)
     }

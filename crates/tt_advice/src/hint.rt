@@ -13,7 +13,7 @@ use tt_core::Fault;
 pub enum Hint {
     /// Words without a number or a name.
     Fixed(FixedHint),
-    /// The file is a collection of so many faces, and has not the face that was asked for.
+    /// The file is a collection of so many faces, and has not the requested face.
     Faces(u32),
     /// The table of this fault is missing.
     Lacks(Fault),
@@ -62,7 +62,7 @@ pub enum FixedHint {
     NoFont,
     /// A collection of an unknown version.
     Version,
-    /// The file has one face, and another was asked for.
+    /// The file has one face, and another was requested.
     NoCollection,
     /// A collection without a face.
     NoFaces,
@@ -116,7 +116,7 @@ impl FixedHint {
             FixedHint::Cut => "is cut off or damaged",
             FixedHint::Beyond => "has a glyph beyond what is drawn",
             FixedHint::Program => PROGRAM,
-            FixedHint::Variable => "is a variable font; its default instance is drawn",
+            FixedHint::Variable => VARIABLE,
             FixedHint::NotVariable => "is no variable font",
             FixedHint::NoInstance => "has no such instance; tt_render faces lists them",
             FixedHint::ManyCharacters => MANY_CHARACTERS,
@@ -131,6 +131,9 @@ const CFF: &str = "has CFF outlines; TrueType outlines alone are drawn: \
 const TYPE1: &str = "is a Type 1 font; TrueType outlines alone are drawn: convert it (fontforge)";
 
 const BITMAPS: &str = "has bitmaps or colour pictures, but no TrueType outlines";
+
+const VARIABLE: &str = "is a variable font; its default instance is drawn \
+                        (--instance, --axis; faces lists them)";
 
 const PROGRAM: &str = "has a program for fitting that is refused; --fit best draws it";
 

@@ -10,15 +10,15 @@ use crate::kinds::begins;
 use std::alloc::{AllocError, Global};
 use tt_core::u32_at;
 
-/// The hint about a variable font.
-fn variable_hint(file: &[u8], face: u32) -> Option<Hint>
+/// The hint about a variable font, unless an instance was requested.
+fn variable_hint(file: &[u8], face: u32, instance: bool) -> Option<Hint>
     requires { length file.now ≤ font_limit }
-    ensures { result ≡ variable_hint file.now face }
+    ensures { result ≡ variable_hint file.now face instance }
 {
-    if has_record(file, face, *b"fvar") {
-        Some(Hint::Fixed(FixedHint::Variable))
-    } else {
+    if instance || !has_record(file, face, *b"fvar") {
         None
+    } else {
+        Some(Hint::Fixed(FixedHint::Variable))
     }
 }
 
@@ -45,7 +45,7 @@ fn first_of(count: Option<u32>) -> Option<Hint>
     }
 }
 
-/// The hint about the first face of a collection, where no face was asked for.
+/// The hint about the first face of a collection, where no face was requested.
 fn first_hint(file: &[u8], given: bool) -> Option<Hint>
     ensures { result ≡ first_hint file.now given }
 {
@@ -74,8 +74,8 @@ fn push_hint(
     }
 }
 
-/// The lines about a font that is drawn, by its path, its bytes, its face's number, and whether the face was asked for.
-/// Error: memory ran out.
+/// The lines about a font that is drawn, by its path, its bytes, its face's number, and whether the face and an instance
+/// were requested. Error: memory ran out.
 #[tactic(auto, unfolding(crate::specs::Notes::font_notes))]
 pub fn font_notes(
     alloc: Global,
@@ -83,12 +83,13 @@ pub fn font_notes(
     file: &[u8],
     face: u32,
     given: bool,
+    instance: bool,
 ) -> Result<String, AllocError>
     requires { length file.now ≤ font_limit }
-    ensures { IfOk result (λ text. string_bytes text ≡ font_notes path.now file.now face given) }
+    ensures { IfOk result (λ text. string_bytes text ≡ font_notes path.now file.now face given instance) }
 {
     let mut text = String::new(alloc);
-    push_hint(&mut text, alloc, path, variable_hint(file, face))?;
+    push_hint(&mut text, alloc, path, variable_hint(file, face, instance))?;
     push_hint(&mut text, alloc, path, first_hint(file, given))?;
     Ok(text)
 }

@@ -27,23 +27,23 @@ at_once a j None refused = tt
 at_once a j (Some file) refused = rw refused refl
 
 -- nor of a font that could not be read
-no_hint : (e : RunFault) (before after : Option (List ℕ)) (failed : Bool) (file : List ℕ) (n : ℕ)
-    → ReadFails e before after failed → ◌≡◌ {A = Option Hint} None (hint_for (refusal_of_run e) file n)
-no_hint (run.Font f) before after failed file n fails = absurd fails
-no_hint (run.Job j) before after failed file n fails = absurd fails
-no_hint run.Read before after failed file n fails = refl
-no_hint run.FontLarge before after failed file n fails = refl
-no_hint (run.Write sent) before after failed file n fails = refl
-no_hint run.Memory before after failed file n fails = refl
+no_hint : (e : RunFault) (before after : Option (List ℕ)) (failed : Bool) (file : List ℕ) (a : FontFile)
+    → ReadFails e before after failed → ◌≡◌ {A = Option Hint} None (hint_for (refusal_of_run e) file a)
+no_hint (run.Font f) before after failed file a fails = absurd fails
+no_hint (run.Job j) before after failed file a fails = absurd fails
+no_hint run.Read before after failed file a fails = refl
+no_hint run.FontLarge before after failed file a fails = refl
+no_hint (run.Write sent) before after failed file a fails = refl
+no_hint run.Memory before after failed file a fails = refl
 
 pub unread : (a : FontFile) (e : RunFault) (before after : Option (List ℕ)) (failed : Bool) → asked_tested a ≡ Ok tt
     → ReadFails e before after failed → IfSome before (HintsBy a (stopped (before_lines (refusal_of_run e)) None))
 unread a e None after failed passes fails = tt
-unread a e (Some file) after failed passes fails = rw passes (no_hint e (Some file) after failed file a.face fails)
+unread a e (Some file) after failed passes fails = rw passes (no_hint e (Some file) after failed file a fails)
 
 -- a fault behind the reading has its hint
 pub behind : (a : FontFile) (fault : TextsFault) (file : List ℕ) → asked_tested a ≡ Ok tt
-    → HintsBy a (stopped fault (hint_for fault.refusal file a.face)) file
+    → HintsBy a (stopped fault (hint_for fault.refusal file a)) file
 behind a fault file passes = rw passes refl
 
 -- a writer that failed has none

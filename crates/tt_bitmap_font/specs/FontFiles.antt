@@ -1,8 +1,8 @@
 -- No part of a standard: the file of a font at a size, and the order of its refusals (profile). All glyphs are made
 -- before a byte is written.
-use Rattle.std.specs.Prelude.{◌≡◌, refl, ℕ, false, List, [], length, codes, string_bytes, Option, Some, None, Result, Ok, Err}
+use Rattle.std.specs.Prelude.{◌≡◌, refl, ℕ, false, List, [], length, codes, string_bytes, Option, Some, None, is_some, Result, Ok, Err}
 use Rattle.std.specs.Fmt.{digits}
-use Rattle.tt_advice.specs.Advice.{advice}
+use Rattle.tt_advice.specs.Advice.{axis_advice}
 use Rattle.tt_advice.specs.declared.hint.FixedHint.TheVariants as fixed
 use Rattle.tt_advice.specs.declared.hint.Hint.{Hint}
 use Rattle.tt_advice.specs.declared.hint.Hint.TheVariants as hint
@@ -29,7 +29,7 @@ use Rattle.tt_render_texts.specs.declared.label_reports.Signs.{Signs}
 use Rattle.tt_render_settings.specs.LinesDefects.{IsTextDefect}
 use Rattle.tt_render_texts.specs.Printing.{Errors}
 use Rattle.tt_render_texts.specs.Reports.{label_report_of, nothing_cut}
-use Rattle.tt_render_settings.specs.Settings.{job_by, plain_setting}
+use Rattle.tt_render_settings.specs.Settings.{axes_in, job_by, plain_setting}
 use Rattle.tt_render_texts.specs.Answers.{LabelTold, TextAnswer}
 use Rattle.tt_render_settings.specs.Texts.{TextRefusal, as_text}
 use Rattle.tt_render_settings.specs.Lines.{stream}
@@ -52,7 +52,7 @@ opening_of a =
 
 -- the setting of a file: no margin
 abbrev pub setting_of : FontFile → Setting
-setting_of a = plain_setting a.size 0 a.fit (opening_of a)
+setting_of a = record (plain_setting a.size 0 a.fit (opening_of a)) { instance = a.instance }
 
 -- the tests before the font is read: the size, and then the length of the text
 abbrev pub asked_tested : FontFile → Result (Unit {0}) JobFault
@@ -81,6 +81,10 @@ told_by how notes = record { fit = how; cut = nothing_cut; signs = no_signs; fon
 abbrev pub file_text : FontFile → Face → List ℕ → Bitmaps → List ℕ
 file_text a face cs b = bdf_text (face_facts face a.size) (characters_by face cs b.entries) b.rows
 
+-- the lines about the font, by the font's file
+abbrev pub file_notes : FontFile → List ℕ → List ℕ
+file_notes a file = font_notes a.path.now file a.face a.face_given (is_some a.instance)
+
 -- the file by its bitmaps, and its report; a file takes nothing of the budget of many lines
 abbrev pub answer_by : FontFile → Face → List ℕ × Bitmaps → TextAnswer
 answer_by a face p = record {
@@ -88,7 +92,7 @@ answer_by a face p = record {
   unfitted = unfitted_of face p.0 p.1.entries;
   lacking = text_lacking face.cmap a.text.now;
   cost = 0;
-  label = Some (told_by a.fit (font_notes a.path.now face.directory.file a.face a.face_given));
+  label = Some (told_by a.fit (file_notes a face.directory.file));
 }
 
 -- the file of a font by a face, or the first refusal
@@ -125,31 +129,31 @@ abbrev pub IsGlyphsDefect : FontFile → Face → Fault → Type 0
 IsGlyphsDefect a face f =
     IsLineDefect face (job_by (setting_of a) a.text.now) (file_glyphs a.ranges.now face.cmap a.text.now) f
 
--- a defect of the tables needed for every text, or of the data that this file is made from
+-- a defect of the tables needed for every text, of the instance, or of the data that this file is made from
 abbrev pub IsFileDefect : FontFile → List ℕ → Fault → Type 0
 IsFileDefect a file f = IsTextDefect (file_glyphs a.ranges.now) (setting_of a) a.text.now file f
 
--- which of the characters that are asked for a font has
+-- which of the requested characters a font has
 abbrev pub characters_hint : JobFault → Option Hint
 characters_hint job.TextLong = Some (hint.Fixed fixed.ManyCharacters)
 characters_hint job.EmptyPicture = Some (hint.Fixed fixed.NoCharacter)
 characters_hint j = None
 
--- what is reported to a person of the font's file: why the font is refused, and which of its characters are asked for
-abbrev pub hint_for : Refusal → List ℕ → ℕ → Option Hint
-hint_for (reason.Font f) file face = Some (advice f file face)
-hint_for (reason.Job j) file face = characters_hint j
-hint_for why file face = None
+-- what is reported to a person of the font's file: why the font is refused, and which of its characters are requested
+abbrev pub hint_for : Refusal → List ℕ → FontFile → Option Hint
+hint_for (reason.Font f) file a = Some (axis_advice f file a.face (axes_in (setting_of a)))
+hint_for (reason.Job j) file a = characters_hint j
+hint_for why file a = None
 
 -- the hint of a fault, by the tests before the font is read: a text that is too long is no matter of the font
-abbrev pub hint_behind : Result (Unit {0}) JobFault → Refusal → List ℕ → ℕ → Option Hint
-hint_behind (Ok u) why file face = hint_for why file face
-hint_behind (Err j) why file face = None
+abbrev pub hint_behind : Result (Unit {0}) JobFault → Refusal → List ℕ → FontFile → Option Hint
+hint_behind (Ok u) why file a = hint_for why file a
+hint_behind (Err j) why file a = None
 
 -- the hint of an answer
 abbrev pub hint_of : FontFile → Result (Unit {0}) TextsFault → List ℕ → Option Hint
 hint_of a (Ok u) file = None
-hint_of a (Err fault) file = hint_behind (asked_tested a) fault.refusal file a.face
+hint_of a (Err fault) file = hint_behind (asked_tested a) fault.refusal file a
 
 abbrev pub HintsBy : FontFile → Labelled → List ℕ → Type 0
 HintsBy a e file = e.hint ≡ hint_of a e.answer file
@@ -159,17 +163,17 @@ size_before_the_text : tested (job_by (plain_setting 301 0 fit.Best (plain_openi
 unfolding tested size_tested
 size_before_the_text = refl
 
-a_long_text : hint_behind (Err job.TextLong) (reason.Job job.TextLong) [] 0 ≡ None
-a_long_text = refl
+a_long_text : (a : FontFile) → hint_behind (Err job.TextLong) (reason.Job job.TextLong) [] a ≡ None
+a_long_text a = refl
 
-many_characters : hint_behind (Ok tt) (reason.Job job.TextLong) [] 0 ≡ Some (hint.Fixed fixed.ManyCharacters)
-many_characters = refl
+many_characters : (a : FontFile) → hint_behind (Ok tt) (reason.Job job.TextLong) [] a ≡ Some (hint.Fixed fixed.ManyCharacters)
+many_characters a = refl
 
-no_character : hint_behind (Ok tt) (reason.Job job.EmptyPicture) [] 0 ≡ Some (hint.Fixed fixed.NoCharacter)
-no_character = refl
+no_character : (a : FontFile) → hint_behind (Ok tt) (reason.Job job.EmptyPicture) [] a ≡ Some (hint.Fixed fixed.NoCharacter)
+no_character a = refl
 
-a_large_glyph : hint_behind (Ok tt) (reason.Job job.PictureLarge) [] 0 ≡ None
-a_large_glyph = refl
+a_large_glyph : (a : FontFile) → hint_behind (Ok tt) (reason.Job job.PictureLarge) [] a ≡ None
+a_large_glyph a = refl
 
 -- the report of a file with an unfitted glyph, and of one without the two characters Z and z
 one_unfitted_and_two_lacking : label_report_of None (told_by fit.Best []) 1 (codes "Zz")

@@ -1,8 +1,8 @@
 //! The file of a font by its face, ready to be written, and its report.
 
-ghost use Rattle.std.specs.Prelude.{◌≡◌, ◌≤◌, All, length, IfOk};
+ghost use Rattle.std.specs.Prelude.{◌≡◌, ◌≤◌, All, length, string_bytes, IfOk};
 ghost use Rattle.tt_bdf.specs.Ranges.{IsCodeRange};
-ghost use Rattle.tt_bitmap_font.specs.FontFiles.{IsGlyphsDefect, TellsFile, bdf_outcome, file_view};
+ghost use Rattle.tt_bitmap_font.specs.FontFiles.{IsGlyphsDefect, TellsFile, bdf_outcome, file_notes, file_view};
 ghost use Rattle.tt_core.specs.Limits.{font_limit, size_limit};
 ghost use Rattle.tt_core.specs.Outcomes.{GivesUnless};
 ghost use Rattle.tt_render_settings.specs.TextsOutcome.{IsOfText, refusal_font_fault, told, without_line};
@@ -13,7 +13,7 @@ use crate::font_file::FontFile;
 use crate::lacking::text_lacking;
 use crate::made::{MadeFile, make_file};
 use crate::report::file_report;
-use std::alloc::Global;
+use std::alloc::{AllocError, Global};
 use tt_advice::font_notes;
 use tt_face::Face;
 use tt_fit::Fit;
@@ -30,6 +30,22 @@ pub(crate) struct ReadyFile {
     pub(crate) fit: Fit,
     pub(crate) notes: String,
     pub(crate) report: String,
+}
+
+/// The lines about a file's font, by the font's file. Error: memory ran out.
+fn notes_of(alloc: Global, file: &[u8], asked: &FontFile) -> Result<String, AllocError>
+    requires { length file.now ≤ font_limit }
+    ensures { IfOk result (λ text. string_bytes text ≡ file_notes asked.now file.now) }
+{
+    let instance = asked.instance.is_some();
+    font_notes(
+        alloc,
+        asked.path,
+        file,
+        asked.face,
+        asked.face_given,
+        instance,
+    )
 }
 
 /// The file of a font by a face of this font file. Errors: those of `file_bitmaps`. No error has a line.
@@ -54,7 +70,7 @@ pub(crate) fn answer_file(
     let made = make_file(alloc, face, asked.size, &characters, list)?;
     let MadeFile { text, unfitted } = made;
     let lacking = text_lacking(alloc, face.cmap(), asked.text)?;
-    let notes = font_notes(alloc, asked.path, file, asked.face, asked.face_given)?;
+    let notes = notes_of(alloc, file, asked)?;
     let report = file_report(alloc, asked.fit, unfitted.len(), &lacking, &notes)?;
     Ok(ReadyFile {
         file: text,

@@ -7,7 +7,7 @@ ghost use Rattle.tt_core.specs.Outcomes.{Gives};
 
 use tt_bdf::CodeRange;
 use tt_core::{JobFault, Reading};
-use tt_face::{Heights, LineRules, Opening};
+use tt_face::{AskedInstance, Heights, LineRules, Opening};
 use tt_fit::Fit;
 use tt_render_settings::Setting;
 use tt_strike::test_job;
@@ -28,8 +28,10 @@ pub struct FontFile<'a> {
     pub text: &'a str,
     /// The path of the font, as it is reported.
     pub path: &'a str,
-    /// Whether a face was asked for.
+    /// Whether a face was requested.
     pub face_given: bool,
+    /// The instance of a variable font, if one is requested.
+    pub instance: Option<AskedInstance<'a>>,
 }
 
 impl<'a> FontFile<'a> {
@@ -48,10 +50,13 @@ impl<'a> FontFile<'a> {
     }
 
     /// The setting by which texts are drawn with the file's glyphs.
-    pub(crate) fn setting(&self) -> Setting
+    pub(crate) fn setting(&self) -> Setting<'a>
         ensures { result ≡ setting_of self.now }
     {
-        Setting::plain(self.size, 0, self.fit, self.opening())
+        Setting {
+            instance: self.instance,
+            ..Setting::plain(self.size, 0, self.fit, self.opening())
+        }
     }
 
     /// Tests the request before the font is read. Errors, the first of: SizeRange, TextLong.

@@ -13,7 +13,7 @@ ghost use Rattle.tt_render_streams.specs.Traffic.{traffic_of};
 use crate::answers::{ReadyFile, answer_file};
 use crate::font_file::FontFile;
 use std::alloc::Global;
-use tt_advice::{FixedHint, Hint, advice};
+use tt_advice::{FixedHint, Hint, axis_advice};
 use tt_core::{JobFault, Sink, Source};
 use tt_face::Face;
 use tt_pbm::write_all_of;
@@ -21,7 +21,7 @@ use tt_render_settings::Labelled;
 use tt_render_streams::{RunFault, read_font};
 use tt_render_texts::{Refusal, TextsFault, print_text};
 
-/// Which of the characters that are asked for a font has, where these refuse the file.
+/// Which of the requested characters a font has, where these refuse the file.
 fn characters_hint(job: JobFault) -> Option<Hint>
     ensures { result ≡ characters_hint job }
 {
@@ -36,12 +36,15 @@ fn characters_hint(job: JobFault) -> Option<Hint>
 }
 
 /// What is reported to a person of the font's file, where the file is refused behind the reading.
-fn hint_for(refusal: Refusal, file: &[u8], face: u32) -> Option<Hint>
+fn hint_for(refusal: Refusal, file: &[u8], asked: &FontFile) -> Option<Hint>
     requires { length file.now ≤ font_limit }
-    ensures { result ≡ hint_for refusal file.now face }
+    ensures { result ≡ hint_for refusal file.now asked.now }
 {
     match refusal {
-        Refusal::Font(fault) => Some(advice(fault, file, face)),
+        Refusal::Font(fault) => {
+            let axes = asked.setting().axes();
+            Some(axis_advice(fault, file, asked.face, axes))
+        }
         Refusal::Job(job) => characters_hint(job),
         Refusal::Space(_)
         | Refusal::NotUtf8
@@ -59,9 +62,9 @@ fn hint_for(refusal: Refusal, file: &[u8], face: u32) -> Option<Hint>
 /// A fault with the hint about the font's file.
 fn hinted(fault: TextsFault, file: &[u8], asked: &FontFile) -> Labelled
     requires { length file.now ≤ font_limit }
-    ensures { result ≡ record { answer = Err fault; hint = hint_for fault.refusal file.now asked.now.face } }
+    ensures { result ≡ record { answer = Err fault; hint = hint_for fault.refusal file.now asked.now } }
 {
-    let hint = hint_for(fault.refusal, file, asked.face);
+    let hint = hint_for(fault.refusal, file, asked);
     Labelled {
         answer: Err(fault),
         hint,
@@ -99,8 +102,8 @@ fn unread(fault: RunFault) -> Labelled
     unhinted(fault.refusal)
 }
 
-/// The file of a font by the font's file. Errors, the first of: Font, of the tables needed for every text; those of
-/// `answer_file`. Memory may come at any allocation.
+/// The file of a font by the font's file. Errors, the first of: Font, of the tables needed for every text and of the
+/// instance; those of `answer_file`. Memory may come at any allocation.
 fn ready_file(alloc: Global, file: &[u8], asked: &FontFile) -> Result<ReadyFile, TextsFault>
     requires font { length file.now ≤ font_limit }
     requires ranges { All IsCodeRange asked.now.ranges.now }
@@ -109,7 +112,7 @@ fn ready_file(alloc: Global, file: &[u8], asked: &FontFile) -> Result<ReadyFile,
     ensures defects { TextTellsDefects (IsFileDefect asked.now file.now) result }
     ensures report { IfOk result TellsFile }
 {
-    let face = Face::read_with(file, asked.opening())?;
+    let face = Face::read_at(file, asked.opening(), asked.instance)?;
     match answer_file(alloc, &face, file, asked) {
         Ok(ready) => Ok(ready),
         Err(fault) => Err(TextsFault {
@@ -124,8 +127,8 @@ fn ready_file(alloc: Global, file: &[u8], asked: &FontFile) -> Result<ReadyFile,
 /// `error`, and behind it the lines about the font. A failure of `error` does not change the answer.
 ///
 /// Errors, the first of these, with no line: Job (SizeRange, and TextLong, of a text of more than 4,096 characters),
-/// before the font is read; FontRead, FontLarge; Font, of the tables needed for every text; Job (TextLong, of more than
-/// 4,096 characters of the file, and EmptyPicture, of none); Font and Job of `BitmapList::make_sound`; Job
+/// before the font is read; FontRead, FontLarge; Font, of the tables needed for every text and of the instance; Job
+/// (TextLong, of more than 4,096 characters of the file, and EmptyPicture, of none); Font and Job of `BitmapList::make_sound`; Job
 /// (PictureLarge); and Write. Memory may come at any allocation, and then nothing was written. A fault of the font, and
 /// one of its characters, has the hint about the font's file.
 pub fn write_bdf<R: Source, W: Sink, E: Sink>(

@@ -14,7 +14,8 @@ use Rattle.tt_bdf.specs.Laws.{BelongsIn, CodesBelong, CodesRise}
 use Rattle.tt_cmap.specs.Units.{is_selector}
 use Rattle.tt_core.specs.Chains.{came-through}
 use Rattle.tt_face.specs.Faces.{Face, glyphs_in}
-use Rattle.tt_face.specs.Files.{face_by, face_with}
+use Rattle.tt_face.specs.Files.{face_by}
+use Rattle.tt_face.specs.Instance.{face_at_asked, face_at_instance}
 use Rattle.tt_face.specs.Rules.{ruled}
 use Rattle.tt_fit.specs.declared.programs.Fit.{Fit}
 use Rattle.tt_fit.specs.declared.programs.Fit.TheVariants as fit
@@ -34,7 +35,7 @@ use Rattle.tt_metrics.specs.Metrics.{Metrics, advance_of, glyphs_of}
 use Rattle.tt_picture.specs.Distinct.{is_among}
 use Rattle.tt_picture.specs.Pictures.{Image, image}
 use Rattle.tt_picture.proofs.Alike.{image_alike}
-use Rattle.tt_render_settings.specs.Settings.{job_by}
+use Rattle.tt_render_settings.specs.Settings.{asked_in, face_asked, job_by}
 use Rattle.tt_strike.specs.Job.{Job, tested}
 use Rattle.tt_strike.specs.Picture.{drawn, frame_of, laid_out, line_outcome, pictured_by, setting, text_placed}
 use Rattle.tt_strike.specs.Programs.{programs_in}
@@ -221,12 +222,13 @@ is_pictured face j i was =
       is = by_line.rest;
     }
 
-unkerned_face : (file : List ℕ) (a : FontFile) (face : Face) → face_with file (opening_of a) ≡ Ok face
+unkerned_face : (file : List ℕ) (a : FontFile) (face : Face) → face_asked (setting_of a) file ≡ Ok face
     → face.metrics.kerning ≡ None
-unfolding face_with ruled
+unfolding face_at_instance ruled
 unkerned_face file a face was =
     let by_face = came-through (face_by file (opening_of a).reading) _ face was in
-    let is : ruled (opening_of a).rules by_face.value ≡ face = ok_same (ruled (opening_of a).rules by_face.value) face by_face.rest in
+    let at = came-through (face_at_asked by_face.value (asked_in (setting_of a))) _ face by_face.rest in
+    let is : ruled (opening_of a).rules at.value ≡ face = ok_same (ruled (opening_of a).rules at.value) face at.rest in
     ap (λ (f : Face). f.metrics.kerning) (sym is)
 
 no_margin : (r d : ℤ) → (r +ℤ d) +ℤ pos (2 * 0) ≡ r +ℤ d

@@ -5,7 +5,6 @@ use Rattle.tt_bdf.specs.declared.character.BdfCharacter.{BdfCharacter}
 use Rattle.tt_bdf.specs.Facts.{FontFacts}
 use Rattle.tt_bdf.specs.Laws.{Rises}
 use Rattle.tt_face.specs.Faces.{Face}
-use Rattle.tt_face.specs.Files.{face_with}
 use Rattle.tt_fit.specs.declared.programs.Fit.{Fit}
 use Rattle.tt_fit.specs.declared.programs.Fit.TheVariants as fit
 use Rattle.tt_fit.specs.Fitting.{Fitter}
@@ -13,13 +12,13 @@ use Rattle.tt_glyphs.specs.EntryLaws.{IsMadeAlike}
 use Rattle.tt_glyphs.specs.Requests.{Bitmaps}
 use Rattle.tt_metrics.specs.Metrics.{glyphs_of}
 use Rattle.tt_picture.specs.Pictures.{Image, image}
-use Rattle.tt_render_settings.specs.Settings.{job_by}
+use Rattle.tt_render_settings.specs.Settings.{face_asked, job_by}
 use Rattle.tt_strike.specs.Picture.{line_outcome, setting}
 use Rattle.tt_bitmap_font.specs.Bitmaps.{characters_by}
 use Rattle.tt_bitmap_font.specs.Characters.{glyph_for, glyphs_for}
 use Rattle.tt_bitmap_font.specs.declared.font_file.FontFile.{FontFile}
 use Rattle.tt_bitmap_font.specs.Facts.{face_facts}
-use Rattle.tt_bitmap_font.specs.FontFiles.{file_bitmaps, opening_of, setting_of}
+use Rattle.tt_bitmap_font.specs.FontFiles.{file_bitmaps, setting_of}
 
 abbrev pub codes_of : List BdfCharacter → List ℕ
 codes_of cs = map (λ (c : BdfCharacter). c.code) cs
@@ -48,7 +47,7 @@ pub record IsOfFile (face : Face) (s : Fitter) (cs text : List ℕ) : Type 0 whe
 -- its picture by the setting of the file is the one that a reader of the file composes
 abbrev pub LinesAreComposed : Type 0
 LinesAreComposed = (file : List ℕ) (a : FontFile) (face : Face) (s : Fitter) (cs : List ℕ) (b : Bitmaps) (text : List ℕ)
-    (i : Image) → face_with file (opening_of a) ≡ Ok face → setting face a.size a.fit ≡ Ok s
+    (i : Image) → face_asked (setting_of a) file ≡ Ok face → setting face a.size a.fit ≡ Ok s
     → file_bitmaps a face ≡ Ok (cs, b) → line_outcome face (job_by (setting_of a) text) ≡ Ok i
     → IsOfFile face s cs (chars text)
     → i ≡ composed_image (face_facts face a.size) b.rows (characters_in (characters_by face cs b.entries) (chars text))

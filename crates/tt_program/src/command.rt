@@ -7,18 +7,30 @@ ghost use Rattle.clap.specs.Words.{ReadsOne, first_value, found_of, one_text};
 use clap::{ArgMatches, Error};
 use std::alloc::Global;
 use tt_program_commands::arguments_of;
-use tt_program_decisions::{Arguments, Request, request_of};
+use tt_program_decisions::{Arguments, InstanceWords, Request, instance_words, request_of};
+
+/// A command line: its request, and the words of the instance.
+#[derive(Drop)]
+pub(crate) struct CommandLine<'a> {
+    pub(crate) request: Request<'a>,
+    pub(crate) instance: InstanceWords<'a>,
+}
 
 /// The request that the words make. None where a required argument is absent.
-pub(crate) fn request<'a>(
+pub(crate) fn command_line<'a>(
     alloc: Global,
     words: &'a [String],
-) -> Result<Option<Request<'a>>, Error> {
+) -> Result<Option<CommandLine<'a>>, Error> {
     let name = subcommand(words);
     let Some(matches) = arguments_of(alloc, name, words)? else {
         return Ok(None);
     };
-    Ok(request_of(name, &FoundArguments { matches: &matches }))
+    let found = FoundArguments { matches: &matches };
+    let Some(request) = request_of(name, &found) else {
+        return Ok(None);
+    };
+    let instance = instance_words(&found);
+    Ok(Some(CommandLine { request, instance }))
 }
 
 /// The word at the place of the subcommand. Empty where no word is.

@@ -6,7 +6,7 @@ ghost use Rattle.std.specs.Prelude.{◌≡◌, ◌≤◌, false};
 mod command;
 mod output;
 
-use crate::command::{request, subcommand};
+use crate::command::{command_line, subcommand};
 use crate::output::OutputFiles;
 use clap::Error;
 use clap::error::ErrorKind;
@@ -19,8 +19,8 @@ use std::{env, fs, io};
 use tt_advice::shown_words;
 use tt_core::{Device, Sink};
 use tt_program_decisions::{
-    Stop, perform, stop_of_print, stop_of_request, stop_of_words, tell_refused, tell_stop,
-    tell_unmade, tell_unopened,
+    Stop, axes_asked, perform, stop_of_print, stop_of_request, stop_of_words, tell_refused,
+    tell_stop, tell_unmade, tell_unopened,
 };
 
 fn main(rt: HostRuntime) -> ExitCode {
@@ -52,7 +52,7 @@ impl Read for Lines {
     }
 }
 
-/// Reads the command line and does what it asks for; answers the exit status.
+/// Reads the command line and performs its request; answers the exit status.
 fn serve<R: Files + Env + Print + Eprint + AllocGlobal>(rt: &R, stdin: Stdin, stderr: Stderr) -> u8
     ensures { result ≤ 5 }
 {
@@ -61,22 +61,27 @@ fn serve<R: Files + Env + Print + Eprint + AllocGlobal>(rt: &R, stdin: Stdin, st
         Ok(words) => words,
         Err(error) => return tell_stop(stop_of_words(error.kind()), &mut errors),
     };
-    let request = match request(rt.alloc(), &words) {
-        Ok(Some(request)) => request,
+    let command = match command_line(rt.alloc(), &words) {
+        Ok(Some(command)) => command,
         Ok(None) => return tell_stop(Stop::Incomplete, &mut errors),
         Err(error) => return tell_error(rt, &words, &error, &mut errors),
     };
+    let axes = match axes_asked(rt.alloc(), command.instance.axes) {
+        Ok(Some(axes)) => axes,
+        Ok(None) => return tell_stop(Stop::Axis, &mut errors),
+        Err(AllocError) => return tell_stop(Stop::Memory, &mut errors),
+    };
+    let request = command.request.at(command.instance.asked(&axes));
     if let Some(stop) = stop_of_request(rt.alloc(), &request) {
         return tell_stop(stop, &mut errors);
     }
-    let lines = Lines::new(stdin);
+    let mut lines = Device::new(Lines::new(stdin));
     let file = match fs::open(rt, request.font()) {
         Ok(file) => file,
         Err(error) => return tell_unopened(rt.alloc(), &request, error.kind(), &mut errors),
     };
     let folder = is_folder(&file);
     let mut font = Device::new(file);
-    let mut lines = Device::new(lines);
     let mut out = OutputFiles::new(rt, io::writer(rt), request.output());
     let status = perform(
         rt.alloc(),
@@ -138,7 +143,7 @@ fn tell_refusal<E: Sink>(alloc: Global, words: &[String], errors: &mut E) -> u8
     let Ok(shown) = shown_words(alloc, words) else {
         return tell_stop(Stop::Memory, errors);
     };
-    match request(alloc, &shown) {
+    match command_line(alloc, &shown) {
         Err(error) if error.kind() == ErrorKind::OutOfMemory => tell_stop(Stop::Memory, errors),
         Err(error) if error.use_stderr() => match format!(in alloc; "{error}") {
             Ok(refusal) => tell_refused(alloc, subcommand(&shown), &refusal, errors),

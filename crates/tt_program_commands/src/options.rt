@@ -106,6 +106,23 @@ pub(crate) const FACE: Argument = Argument {
     ..PLAIN
 };
 
+pub(crate) const INSTANCE: Argument = Argument {
+    name: "instance",
+    takes: Takes::Text,
+    values: &["NAME"],
+    help: "A named instance of a variable font, or its number;\n\
+           'faces' lists them",
+    ..PLAIN
+};
+
+pub(crate) const AXIS: Argument = Argument {
+    name: "axis",
+    takes: Takes::Text,
+    values: &["TAG=VALUE"],
+    help: "Values of a variable font's axes, as wght=700,wdth=87.5",
+    ..PLAIN
+};
+
 /// `--missing` for programs.
 pub(crate) const MISSING: Argument = Argument {
     name: "missing",

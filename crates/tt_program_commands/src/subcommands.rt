@@ -2,8 +2,8 @@
 
 use crate::arguments::Argument;
 use crate::options::{
-    ALIGN, BOX, FACE, FIT, FIT_BEST, FONT, GROW, HEIGHT, KEEP_GOING, KERN, LINES, MARGIN, MISSING,
-    MISSING_TOLD, NO_INK, OUTPUT, PNG, RANGE, SIZE, TEXT, TEXT_OR_LINES, WIDTH,
+    ALIGN, AXIS, BOX, FACE, FIT, FIT_BEST, FONT, GROW, HEIGHT, INSTANCE, KEEP_GOING, KERN, LINES,
+    MARGIN, MISSING, MISSING_TOLD, NO_INK, OUTPUT, PNG, RANGE, SIZE, TEXT, TEXT_OR_LINES, WIDTH,
 };
 
 /// A subcommand.
@@ -27,15 +27,38 @@ pub(crate) fn subcommand_named(name: &str) -> Option<&'static Subcommand> {
     None
 }
 
-/// All subcommands. Only this function reads the constants: a proof that sees them is slow.
-pub(crate) fn subcommands() -> &'static [Subcommand] {
-    SUBCOMMANDS.as_slice()
+/// All subcommands, in the order of the help.
+pub(crate) fn subcommands() -> [&'static Subcommand; 6] {
+    [label(), draw(), measure(), map(), faces(), bdf()]
 }
 
-/// The subcommands, in the order of the help.
-static SUBCOMMANDS: [Subcommand; 6] = [LABEL, DRAW, MEASURE, MAP, FACES, BDF];
+// Only these functions read the constants, each of one subcommand: a proof that sees them is slow.
 
-const LABEL: Subcommand = Subcommand {
+fn label() -> &'static Subcommand {
+    &LABEL
+}
+
+fn draw() -> &'static Subcommand {
+    &DRAW
+}
+
+fn measure() -> &'static Subcommand {
+    &MEASURE
+}
+
+fn map() -> &'static Subcommand {
+    &MAP
+}
+
+fn faces() -> &'static Subcommand {
+    &FACES
+}
+
+fn bdf() -> &'static Subcommand {
+    &BDF
+}
+
+static LABEL: Subcommand = Subcommand {
     name: "label",
     call: "tt_render label",
     about: "Writes the picture of a text for people, as binary PBM (P4)",
@@ -59,6 +82,8 @@ const LABEL: Subcommand = Subcommand {
         BOX,
         FIT_BEST,
         FACE,
+        INSTANCE,
+        AXIS,
         MISSING_TOLD,
         KERN,
         HEIGHT,
@@ -71,7 +96,7 @@ const LABEL: Subcommand = Subcommand {
     ],
 };
 
-const DRAW: Subcommand = Subcommand {
+static DRAW: Subcommand = Subcommand {
     name: "draw",
     call: "tt_render draw",
     about: "Writes the picture of a line of text, as binary PBM (P4)",
@@ -83,6 +108,8 @@ const DRAW: Subcommand = Subcommand {
         MARGIN,
         FIT,
         FACE,
+        INSTANCE,
+        AXIS,
         MISSING,
         GROW,
         KERN,
@@ -94,7 +121,7 @@ const DRAW: Subcommand = Subcommand {
     ],
 };
 
-const MEASURE: Subcommand = Subcommand {
+static MEASURE: Subcommand = Subcommand {
     name: "measure",
     call: "tt_render measure",
     about: "Prints where the baseline, the ink and each character are, in pixels",
@@ -106,6 +133,8 @@ const MEASURE: Subcommand = Subcommand {
         MARGIN,
         FIT,
         FACE,
+        INSTANCE,
+        AXIS,
         MISSING,
         GROW,
         KERN,
@@ -121,13 +150,15 @@ const MEASURE: Subcommand = Subcommand {
     ],
 };
 
-const MAP: Subcommand = Subcommand {
+static MAP: Subcommand = Subcommand {
     name: "map",
     call: "tt_render map",
     about: "Prints each character's glyph number and advance in font units",
     ending: Some("A TEXT that begins with '-' goes after '--':\n  tt_render map FONT -- -text"),
     arguments: &[
         FACE,
+        INSTANCE,
+        AXIS,
         FONT,
         Argument {
             required: true,
@@ -136,15 +167,15 @@ const MAP: Subcommand = Subcommand {
     ],
 };
 
-const FACES: Subcommand = Subcommand {
+static FACES: Subcommand = Subcommand {
     name: "faces",
     call: "tt_render faces",
-    about: "Prints the faces of a file: glyphs, units per em and name of each",
+    about: "Prints the faces of a file, with their axes and named instances",
     ending: None,
     arguments: &[FONT],
 };
 
-const BDF: Subcommand = Subcommand {
+static BDF: Subcommand = Subcommand {
     name: "bdf",
     call: "tt_render bdf",
     about: "Writes characters of a font at a size as a bitmap font (BDF 2.1)",
@@ -152,5 +183,7 @@ const BDF: Subcommand = Subcommand {
         "Without --range and TEXT it writes --range 20-7E,A0-FF.\n\
          A TEXT that begins with '-' goes after '--':\n  tt_render bdf --size N FONT -- -text",
     ),
-    arguments: &[SIZE, RANGE, FIT_BEST, FACE, HEIGHT, FONT, TEXT],
+    arguments: &[
+        SIZE, RANGE, FIT_BEST, FACE, INSTANCE, AXIS, HEIGHT, FONT, TEXT,
+    ],
 };

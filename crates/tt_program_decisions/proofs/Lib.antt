@@ -1,5 +1,3 @@
-mod FaceCalls
-mod FaceTexts
 mod KeptBytes
 mod Quotes
 pub mod Statuses

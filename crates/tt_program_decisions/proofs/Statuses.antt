@@ -48,6 +48,7 @@ stop_within stop.Unread = omega arith
 stop_within stop.NoText = omega arith
 stop_within stop.Incomplete = omega arith
 stop_within stop.Range = omega arith
+stop_within stop.Axis = omega arith
 stop_within stop.Unnumbered = omega arith
 stop_within stop.OneStream = omega arith
 stop_within stop.Unopened = omega arith

@@ -31,6 +31,7 @@ pub record IsFileFor (b : BdfAsked) (rs : List CodeRange) (f : FontFile) : Type 
   pub text : f.text.now ≡ b.text
   pub path : f.path.now ≡ b.font
   pub given : f.face_given ≡ is_some b.face
+  pub instance : f.instance ≡ b.instance
 
 -- the text about a refused file: the line of the refusal, and then the line that tells a person what to do, if there is
 -- one

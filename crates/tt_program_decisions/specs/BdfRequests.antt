@@ -1,13 +1,14 @@
--- No part of the standard: what `bdf` is asked for (profile).
+-- No part of the standard: the request `bdf` (profile).
 use Rattle.std.specs.Prelude.{◌≡◌, refl, ℕ, List, [], ◌∷◌, codes, Option, Some, None, option_map}
 use Rattle.tt_bdf.specs.declared.range.CodeRange.{CodeRange}
 use Rattle.tt_bdf.specs.Ranges.{ranges_of}
+use Rattle.tt_face.specs.declared.instance.AskedInstance.{AskedInstance}
 use Rattle.tt_fit.specs.declared.programs.Fit.{Fit}
 use Rattle.tt_metrics.specs.declared.heights.Heights.{Heights}
 use Rattle.tt_program_decisions.specs.declared.bdf.BdfRequest.{BdfRequest}
 
--- a font, a size, a way to fit, the number of a face if one is asked for, the rounding of heights, the words of
--- ranges if there are any, a text
+-- a font, a size, a way to fit, the number of a face if there is one, the rounding of heights, the words of
+-- ranges if there are any, a text, and the instance if there is one
 pub record BdfAsked : Type 0 where
   pub font : List ℕ
   pub size : ℕ
@@ -16,6 +17,7 @@ pub record BdfAsked : Type 0 where
   pub heights : Heights
   pub range : Option (List ℕ)
   pub text : List ℕ
+  pub instance : Option AskedInstance
 
 abbrev pub bdf_view : BdfRequest → BdfAsked
 bdf_view b = record {
@@ -26,6 +28,7 @@ bdf_view b = record {
   heights = b.heights;
   range = option_map (λ s. s.now) b.range;
   text = b.text.now;
+  instance = b.instance;
 }
 
 -- the ranges where neither ranges nor a text are given: the printable characters of ASCII and of Latin-1
@@ -42,7 +45,7 @@ abbrev pub text_or_none : Option (List ℕ) → List ℕ
 text_or_none (Some text) = text
 text_or_none None = []
 
--- the ranges that such words ask for, if the words are of the right form
+-- the ranges of such words, if the words are of the right form
 abbrev pub ranges_asked : Option (List ℕ) → Option (List CodeRange)
 ranges_asked None = Some []
 ranges_asked (Some words) = ranges_of words

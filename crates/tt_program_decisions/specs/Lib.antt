@@ -1,7 +1,7 @@
 pub mod BdfCalls
 pub mod BdfRequests
 pub mod Closable
-pub mod FaceLines
+pub mod Instances
 pub mod Output
 pub mod Requests
 pub mod Rules

@@ -7,10 +7,10 @@ use Rattle.tt_core.specs.Limits.{size_limit}
 use Rattle.tt_fit.specs.declared.programs.Fit.{Fit}
 use Rattle.tt_fit.specs.declared.programs.Fit.TheVariants as fit
 use Rattle.tt_face.specs.declared.rules.LineRules.{LineRules}
-use Rattle.tt_face.specs.Files.{IsFaceDefectBy}
+use Rattle.tt_face.specs.declared.instance.AskedInstance.{AskedInstance}
+use Rattle.tt_face.specs.Views.{asked_view}
 use Rattle.tt_face.specs.Rules.{plain_opening}
 use Rattle.tt_metrics.specs.declared.heights.Heights.{Heights}
-use Rattle.tt_strike.specs.Defects.{IsRunDefect}
 use Rattle.tt_render_settings.specs.declared.setting.Missing.{Missing}
 use Rattle.tt_render_settings.specs.declared.setting.Missing.TheVariants as missing
 use Rattle.tt_render_settings.specs.declared.label.Label.{Label as DrawnLabel}
@@ -27,18 +27,17 @@ use Rattle.tt_render_settings.specs.Spaces.{space_asked}
 use Rattle.tt_render.specs.LabelSpaces.{ClaimsIfSized}
 use Rattle.tt_render_lines.specs.LayoutTexts.{FontLayoutGives, IsLayoutDefect}
 use Rattle.tt_render_settings.specs.LinesDefects.{IsTextDefect, LinesTellDefectsOf}
-use Rattle.tt_render_run.specs.MapLines.{map_wanted}
+use Rattle.tt_render_run.specs.MapLines.{IsMapDefect, map_wanted}
 use Rattle.tt_render_streams.specs.Traffic.{Traffic}
 use Rattle.tt_render_texts.specs.Readings.{fit_reading, reading_asked}
 use Rattle.tt_render_settings.specs.Lines.{places}
-use Rattle.tt_render_settings.specs.Settings.{job_by}
 use Rattle.tt_render_settings.specs.TextsOutcome.{FontLinesGive, FontTextGives, TextTellsDefectsOf, reader_in}
 use Rattle.tt_program_decisions.specs.declared.request.Request.{Request}
 use Rattle.tt_program_decisions.specs.declared.labelling.LabelOptions.{LabelOptions}
 use Rattle.tt_program_decisions.specs.declared.request.Request.TheVariants.{Map, Faces, Text, Lines, Layout, Label, Labels, Bdf}
 use Rattle.tt_program_decisions.specs.BdfCalls.{PerformsBdf}
 use Rattle.tt_program_decisions.specs.BdfRequests.{BdfAsked, bdf_view, range_words, text_or_none}
-use Rattle.tt_program_decisions.specs.FaceLines.{IsFacesDefect, faces_wanted}
+use Rattle.tt_program_faces.specs.FaceLines.{IsFacesDefect, faces_wanted}
 use Rattle.tt_program_decisions.specs.Output.{format_asked}
 use Rattle.tt_program_decisions.specs.Rules.{AsksRules, heights_named}
 use Rattle.tt_render_streams.specs.declared.formed.PictureFormat.{PictureFormat}
@@ -83,6 +82,7 @@ setting_named size margin (Some f) (Some m) grows keeps face wanted = Some (reco
   product = wanted;
   most = glyphs_kept;
   keep_going = keeps;
+  instance = None;
 })
 setting_named size margin f m grows keeps face wanted = None
 
@@ -115,6 +115,7 @@ label_named n m (Some a) s (Some f) (Some w) face (Some rules) keeps form = Some
   rules = rules;
   keep_going = keeps;
   format = form;
+  instance = None;
 })
 label_named n m a s f w face rules keeps form = None
 
@@ -137,7 +138,7 @@ label_options_asked n m side s how what face rules keeps form = None
 -- a setting; the products of the lines of standard input; the measure of a text without ink; the label of a text; the
 -- labels of the lines of standard input, both with the name of their files, if there is one; a bitmap font.
 pub data Asked : Type 0 where
-  map_text : List ℕ → List ℕ → Reading → Asked
+  map_text : List ℕ → List ℕ → Reading → Option AskedInstance → Asked
   tell_faces : List ℕ → Asked
   draw_text : List ℕ → List ℕ → Setting → Asked
   draw_lines : List ℕ → Setting → Asked
@@ -147,7 +148,7 @@ pub data Asked : Type 0 where
   make_bdf : BdfAsked → Asked
 
 abbrev pub asked_of : Request → Asked
-asked_of (Map font text r) = map_text font.now text.now r
+asked_of (Map font text r i) = map_text font.now text.now r i
 asked_of (Faces font) = tell_faces font.now
 asked_of (Text font text setting) = draw_text font.now text.now setting
 asked_of (Lines font setting) = draw_lines font.now setting
@@ -158,7 +159,7 @@ asked_of (Bdf asked) = make_bdf (bdf_view asked)
 
 -- `map [--face FACE] FONT TEXT`; words may be absent
 abbrev pub map_asked : Option (List ℕ) → Option (List ℕ) → Option ℕ → Option Asked
-map_asked (Some font) (Some text) face = Some (map_text font text (reading_asked face reading.Strict))
+map_asked (Some font) (Some text) face = Some (map_text font text (reading_asked face reading.Strict) None)
 map_asked font text face = None
 
 -- `faces FONT`; the word may be absent
@@ -198,6 +199,7 @@ bdf_named font n (Some f) face (Some h) range text = Some (make_bdf (record {
   heights = h;
   range = range_words range text;
   text = text_or_none text;
+  instance = None;
 }))
 bdf_named font n f face h range text = None
 
@@ -294,6 +296,7 @@ label_setting o = record {
   product = Picture;
   most = glyphs_kept;
   keep_going = o.keep_going;
+  instance = o.instance;
 }
 
 -- how a label with these options is drawn by the font of a path
@@ -307,7 +310,7 @@ pub record IsLabelFor (font : List ℕ) (o : LabelOptions) (l : DrawnLabel) : Ty
 
 -- the path of a request's font
 abbrev pub font_of : Request → List ℕ
-font_of (Map font text r) = font.now
+font_of (Map font text r i) = font.now
 font_of (Faces font) = font.now
 font_of (Text font text setting) = font.now
 font_of (Lines font setting) = font.now
@@ -333,12 +336,13 @@ pub record PictureTraffic : Type 0 where
 -- standard input, and of the writer again; the third has that of the font and of standard input with the places of
 -- pictures. The Booleans say whether the font's path is that of a folder, and whether the reader had closed the output
 abbrev pub Performs : Request → Bool → Bool → Traffic → Traffic → PictureTraffic → Errors → ℕ → Type 0
-Performs (Map font text r) folder closed t lines p e status =
-    Does (map_wanted r text.now) (λ file. IsFaceDefectBy file r) closed t e status
+Performs (Map font text r i) folder closed t lines p e status =
+    Does (map_wanted r (option_map asked_view i) text.now) (IsMapDefect r (option_map asked_view i) text.now) closed t e
+    status
 Performs (Faces font) folder closed t lines p e status = Does faces_wanted IsFacesDefect closed t e status
 Performs (Text font text setting) folder closed t lines p e status =
     DoesTexts {V = Unit {0}} (λ answer told. FontTextGives setting text.now answer t told
-    × TextTellsDefectsOf t.left_before (IsRunDefect setting.opening (job_by setting text.now)) answer) closed e status
+    × TextTellsDefectsOf t.left_before (IsTextDefect text_glyphs setting text.now) answer) closed e status
 Performs (Lines font setting) folder closed t lines p e status =
     DoesLines (λ answer told. FontLinesGive (λ drawn. drawn.refused) setting answer (reader_in t) lines told
     × LinesTellDefectsOf text_glyphs t.left_before setting lines.left_before answer) closed e status

@@ -46,6 +46,7 @@ stop_text stop.Unread = []
 stop_text stop.NoText = codes "tt_render: the command line is not UTF-8\n"
 stop_text stop.Incomplete = codes "tt_render: the command line is incomplete; --box is WxH, as 384x120\n"
 stop_text stop.Range = codes "tt_render: --range is hexadecimal, as 20-7E,A0-FF\n"
+stop_text stop.Axis = codes "tt_render: --axis is TAG=VALUE, as wght=700,wdth=87.5\n"
 stop_text stop.Unnumbered = codes "tt_render: with --lines the FILE of -o has %d once, as label-%d.png\n"
 stop_text stop.OneStream = codes "tt_render: --png with --lines goes with -o, as -o label-%d.png\n"
 stop_text stop.Unopened = line_of run.Read ++ codes "\n"
@@ -55,7 +56,7 @@ stop_text stop.Memory = line_of run.Memory ++ codes "\n"
 abbrev pub TellsStop : Stop → ℕ → Errors → Type 0
 TellsStop why status e = (status ≡ stop_status why) × Prints e (stop_text why)
 
--- why the words of a request stop it before its font is opened, by the ranges that they ask for
+-- why the words of a request stop it before its font is opened, by their ranges
 abbrev pub IsStopFor : Option (List CodeRange) → Option Stop → Type 0
 IsStopFor ranges None = is_some ranges ≡ true
 IsStopFor ranges (Some stop.Range) = ranges ≡ None

@@ -1,4 +1,4 @@
-//! The request `bdf`: what it asks for, and its performance.
+//! The request `bdf`, and its performance.
 
 ghost use Rattle.std.specs.Prelude.{◌≡◌, ◌≤◌, false, All, IfOk, IfSome, option_map};
 ghost use Rattle.tt_bdf.specs.Ranges.{IsCodeRange};
@@ -19,7 +19,7 @@ use std::alloc::{AllocError, Global};
 use tt_bdf::{CodeRange, read_ranges};
 use tt_bitmap_font::{FontFile, write_bdf};
 use tt_core::{Sink, Source};
-use tt_face::Heights;
+use tt_face::{AskedInstance, Heights};
 use tt_fit::Fit;
 
 /// A request for `bdf`.
@@ -29,14 +29,16 @@ pub struct BdfRequest<'a> {
     pub font: &'a str,
     pub size: u32,
     pub fit: Fit,
-    /// The number of the face, if one is asked for.
+    /// The number of the face, if one is requested.
     pub face: Option<u32>,
     /// How the file's ascent and descent are rounded.
     pub heights: Heights,
-    /// The words of the ranges. None where a text alone is asked for.
+    /// The words of the ranges. None where a text alone is requested.
     pub range: Option<&'a str>,
     /// A text, whose characters are wanted too; empty where there is none.
     pub text: &'a str,
+    /// The instance of a variable font, if one is requested.
+    pub instance: Option<AskedInstance<'a>>,
 }
 
 /// The ranges where a request has neither ranges nor a text.
@@ -61,6 +63,7 @@ pub(crate) fn bdf_of<'a, A: Arguments<'a>>(arguments: &A) -> Option<Request<'a>>
         heights: heights_named(height?)?,
         range: range_words(range, text),
         text: text_or_none(text),
+        instance: None,
     }))
 }
 
@@ -86,7 +89,7 @@ fn text_or_none<'a>(text: Option<&'a str>) -> &'a str
     }
 }
 
-/// The ranges that some words ask for. None where the words are not of the right form. Error: memory ran out.
+/// The ranges of some words. None where the words are not of the right form. Error: memory ran out.
 fn ranges_asked(alloc: Global, range: Option<&str>) -> Result<Option<Vec<CodeRange>>, AllocError>
     ensures exact { IfOk result (λ ranges. option_map (λ rs. rs.items) ranges ≡ ranges_asked (option_map (λ s. s.now) range.entry)) }
     ensures codes { IfOk result (λ ranges. IfSome ranges (λ rs. All IsCodeRange rs.items)) }
@@ -157,6 +160,7 @@ pub(crate) fn perform_bdf<R: Source, W: Closable, E: Sink>(
                 text: asked.text,
                 path: asked.font,
                 face_given: asked.face.is_some(),
+                instance: asked.instance,
             };
             let written = write_bdf(alloc, font, out, error, &file);
             tell_bdf(alloc, &written, &file, folder, out.is_closed(), error)

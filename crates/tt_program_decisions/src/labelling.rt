@@ -7,7 +7,7 @@ use crate::output::format_asked;
 use crate::request::{Arguments, GLYPHS_KEPT, Request, fit_named, missing_named};
 use crate::rules::rules_of;
 use tt_core::{Reading, SIZE_LIMIT};
-use tt_face::{LineRules, Opening};
+use tt_face::{AskedInstance, LineRules, Opening};
 use tt_fit::Fit;
 use tt_program_words::{CENTRE, LEFT, RIGHT};
 use tt_render_settings::{Align, Label, Missing, Product, Setting, Space};
@@ -15,7 +15,7 @@ use tt_render_texts::{PictureFormat, reading_asked};
 
 /// The options of `label`.
 #[derive(Clone, Copy)]
-pub struct LabelOptions {
+pub struct LabelOptions<'a> {
     /// The size, or in a box the greatest size to try.
     pub size: u32,
     pub margin: u32,
@@ -24,12 +24,14 @@ pub struct LabelOptions {
     pub space: Space,
     pub fit: Fit,
     pub missing: Missing,
-    /// The number of the face, if one is asked for.
+    /// The number of the face, if one is requested.
     pub face: Option<u32>,
     pub rules: LineRules,
     /// Whether the lines behind a refused line are drawn.
     pub keep_going: bool,
     pub format: PictureFormat,
+    /// The instance of a variable font, if one is requested.
+    pub instance: Option<AskedInstance<'a>>,
 }
 
 /// The request `label OPTION.. FONT TEXT` or `label OPTION.. --lines FONT`, where its words and options are present.
@@ -69,10 +71,10 @@ pub(crate) fn labelling_of<'a, A: Arguments<'a>>(arguments: &A) -> Option<Reques
 
 /// The options `--size SIZE --margin MARGIN --align ALIGN --fit FIT --missing MISSING`, where all are present, and
 /// `--face FACE`, `--width WIDTH` and `--box WxH`, which may be absent, with the rules of `rules_of`; and `--keep-going`,
-/// `--png` and `--output FILE`. With `--box` `--size` may be absent too. None where there are no rules, where the words of
+/// `--png` and `--output FILE`, without an instance. With `--box` `--size` may be absent too. None where there are no rules, where the words of
 /// the box are of another form, or where the name of a side, of the way to fit, or of the treatment of missing glyphs, is
 /// unknown.
-fn label_options_of<'a, A: Arguments<'a>>(arguments: &A) -> Option<LabelOptions>
+fn label_options_of<'a, A: Arguments<'a>>(arguments: &A) -> Option<LabelOptions<'a>>
     ensures { AsksLabelOptions (A.text arguments.now) (A.IsNumber arguments.now) (A.IsFlag arguments.now) result }
 {
     let space = Space::asked(arguments.number_for("width"), arguments.text_for("box"));
@@ -97,6 +99,7 @@ fn label_options_of<'a, A: Arguments<'a>>(arguments: &A) -> Option<LabelOptions>
         rules: rules?,
         keep_going,
         format,
+        instance: None,
     })
 }
 
@@ -126,7 +129,7 @@ pub fn align_named(name: &str) -> Option<Align>
 }
 
 /// How a label with these options is drawn by the font of a path.
-pub(crate) fn label_for<'a>(path: &'a str, options: &LabelOptions) -> Label<'a>
+pub(crate) fn label_for<'a>(path: &'a str, options: &LabelOptions<'a>) -> Label<'a>
     ensures { IsLabelFor path.now options.now result }
 {
     let setting = Setting {
@@ -142,6 +145,7 @@ pub(crate) fn label_for<'a>(path: &'a str, options: &LabelOptions) -> Label<'a>
         product: Product::Picture,
         most: GLYPHS_KEPT,
         keep_going: options.keep_going,
+        instance: options.instance,
     };
     Label {
         setting,

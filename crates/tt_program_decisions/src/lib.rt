@@ -3,7 +3,7 @@
 
 mod bdf;
 mod closable;
-mod faces;
+mod instances;
 mod labelling;
 mod output;
 mod performing;
@@ -21,6 +21,7 @@ mod unopened;
 
 pub use bdf::{BdfRequest, stop_of_request};
 pub use closable::{Closable, OutDevice};
+pub use instances::{InstanceWords, axes_asked, instance_words};
 pub use labelling::{LabelOptions, align_named};
 pub use output::file_name;
 pub use performing::perform;

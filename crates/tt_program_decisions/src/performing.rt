@@ -7,7 +7,6 @@ ghost use Rattle.tt_render_texts.specs.Printing.{errors_of};
 
 use crate::bdf::perform_bdf;
 use crate::closable::Closable;
-use crate::faces::faces;
 use crate::labelling::label_for;
 use crate::request::Request;
 use crate::telling::tell;
@@ -15,6 +14,7 @@ use crate::telling_labels::tell_label;
 use crate::telling_texts::{tell_lines, tell_texts};
 use std::alloc::Global;
 use tt_core::{Sink, Source};
+use tt_program_faces::faces;
 use tt_render_streams::Pictures;
 
 /// Performs a request, and reports on standard error the unfitted glyphs and, where requested, the characters without a
@@ -41,8 +41,13 @@ pub fn perform<R: Source, L: Source, W: Closable + Pictures, E: Sink>(
     ensures lines { UnlessLines request.now (lines.new ≡ lines.old) }
 {
     match request {
-        Request::Map { text, reading, .. } => {
-            let mapped = tt_render_run::map(alloc, font, text, out, *reading);
+        Request::Map {
+            text,
+            reading,
+            instance,
+            ..
+        } => {
+            let mapped = tt_render_run::map(alloc, font, text, out, *reading, *instance);
             tell(alloc, &mapped, out.is_closed(), error)
         }
         Request::Faces { .. } => {

@@ -2,13 +2,14 @@
 
 ghost use Rattle.std.specs.Prelude.{◌≡◌, ◌≢◌, ℕ, Bool, List, Option, None, codes, option_map};
 ghost use Rattle.tt_render_settings.specs.declared.setting.Product.TheVariants.{Measure, Picture};
+ghost use Rattle.tt_program_decisions.specs.Instances.{request_at};
 ghost use Rattle.tt_program_decisions.specs.Requests.{AsksBdf, AsksDrawing, AsksLabel, AsksMap, AsksMeasure, AsksPlainSetting, AsksSetting, asked_of, faces_asked, fit_named, font_of, missing_named, output_of, without_ink};
 
 use crate::bdf::{BdfRequest, bdf_of};
 use crate::labelling::{LabelOptions, labelling_of};
 use crate::rules::rules_of;
 use tt_core::Reading;
-use tt_face::Opening;
+use tt_face::{AskedInstance, Opening};
 use tt_fit::Fit;
 use tt_program_words::{BEST, DRAW, FALLBACK, FULL, NONE, REFUSE, TELL};
 use tt_render_settings::{Missing, Product, Setting};
@@ -22,8 +23,10 @@ pub enum Request<'a> {
         font: &'a str,
         text: &'a str,
         reading: Reading,
+        /// The instance of a variable font, if one is requested. Other requests have theirs in a setting or in options.
+        instance: Option<AskedInstance<'a>>,
     },
-    /// Write the number of the font file's faces, and a line for each.
+    /// Write the number of the font file's faces, a line for each, and lines of its axes and named instances.
     Faces {
         font: &'a str,
     },
@@ -31,31 +34,31 @@ pub enum Request<'a> {
     Text {
         font: &'a str,
         text: &'a str,
-        setting: Setting,
+        setting: Setting<'a>,
     },
     /// Draw each line of standard input, or report its measures.
     Lines {
         font: &'a str,
-        setting: Setting,
+        setting: Setting<'a>,
     },
     /// Report the measures of a line of text without its ink.
     Layout {
         font: &'a str,
         text: &'a str,
-        setting: Setting,
+        setting: Setting<'a>,
     },
     /// Draw a text for people.
     Label {
         font: &'a str,
         text: &'a str,
-        options: LabelOptions,
+        options: LabelOptions<'a>,
         /// The name of the file that takes the picture.
         output: Option<&'a str>,
     },
     /// Draw each line of standard input for people.
     Labels {
         font: &'a str,
-        options: LabelOptions,
+        options: LabelOptions<'a>,
         /// The name of the files that take the pictures, with `%d` for the number of a line.
         output: Option<&'a str>,
     },
@@ -80,7 +83,7 @@ impl<'a> Request<'a> {
         }
     }
 
-    /// The name of the files that take the pictures, if one is asked for.
+    /// The name of the files that take the pictures, if there is one.
     pub fn output(&self) -> Option<&'a str>
         ensures { option_map (λ s. s.now) result ≡ output_of self.now }
     {
@@ -93,6 +96,28 @@ impl<'a> Request<'a> {
             | Request::Layout { .. }
             | Request::Bdf(_) => None,
         }
+    }
+
+    /// The same request at an instance. The faces of a file are told without one.
+    pub fn at(self, instance: Option<AskedInstance<'a>>) -> Request<'a>
+        ensures { result ≡ request_at self.entry instance.entry }
+    {
+        let mut request = self;
+        match &mut request {
+            Request::Map {
+                instance: place,
+                ..
+            } => *place = instance,
+            Request::Faces { .. } => {}
+            Request::Text { setting, .. }
+            | Request::Lines { setting, .. }
+            | Request::Layout { setting, .. } => setting.instance = instance,
+            Request::Label { options, .. } | Request::Labels { options, .. } => {
+                options.instance = instance;
+            }
+            Request::Bdf(asked) => asked.instance = instance,
+        }
+        request
     }
 }
 
@@ -222,6 +247,7 @@ fn map_of<'a, A: Arguments<'a>>(arguments: &A) -> Option<Request<'a>>
         font: font?,
         text: text?,
         reading: reading_asked(face, Reading::Strict),
+        instance: None,
     })
 }
 
@@ -237,7 +263,7 @@ fn faces_of<'a>(font: Option<&'a str>) -> Option<Request<'a>>
 pub const GLYPHS_KEPT: usize = 4_194_304;
 
 /// The setting of `setting_of`, with the rules of lines of `rules_of`. None where one of the two is none.
-fn ruled_setting_of<'a, A: Arguments<'a>>(arguments: &A, product: Product) -> Option<Setting>
+fn ruled_setting_of<'a, A: Arguments<'a>>(arguments: &A, product: Product) -> Option<Setting<'a>>
     ensures { AsksSetting (A.text arguments.now) (A.IsNumber arguments.now) (A.IsFlag arguments.now) product result }
 {
     let setting = setting_of(arguments, product);
@@ -253,9 +279,9 @@ fn ruled_setting_of<'a, A: Arguments<'a>>(arguments: &A, product: Product) -> Op
 }
 
 /// The setting of `--size SIZE --margin MARGIN --fit FIT --missing MISSING` for a product, where all are present, of
-/// `--face FACE`, which may be absent, and of `--keep-going`. Heights are exact, and no pair is kerned. None where the name of the way to fit, or of the treatment of missing glyphs, is
+/// `--face FACE`, which may be absent, and of `--keep-going`. Heights are exact, no pair is kerned, and there is no instance. None where the name of the way to fit, or of the treatment of missing glyphs, is
 /// unknown.
-fn setting_of<'a, A: Arguments<'a>>(arguments: &A, product: Product) -> Option<Setting>
+fn setting_of<'a, A: Arguments<'a>>(arguments: &A, product: Product) -> Option<Setting<'a>>
     ensures { AsksPlainSetting (A.text arguments.now) (A.IsNumber arguments.now) (A.IsFlag arguments.now) product result }
 {
     let size = arguments.number_for("size");
@@ -275,6 +301,7 @@ fn setting_of<'a, A: Arguments<'a>>(arguments: &A, product: Product) -> Option<S
         product,
         most: GLYPHS_KEPT,
         keep_going,
+        instance: None,
     };
     Some(Setting {
         opening: Opening::plain(reading_asked(face, fit_reading(strict.fit))),

@@ -24,6 +24,8 @@ pub enum Stop {
     Incomplete,
     /// The words of `--range` are of another form.
     Range,
+    /// The words of `--axis` are of another form.
+    Axis,
     /// The name of files of lines has not `%d` exactly once.
     Unnumbered,
     /// One stream takes no pictures in PNG of several lines.
@@ -81,7 +83,12 @@ fn status_of(stop: Stop) -> u8
 {
     match stop {
         Stop::Shown => 0,
-        Stop::NoText | Stop::Incomplete | Stop::Range | Stop::Unnumbered | Stop::OneStream => 2,
+        Stop::NoText
+        | Stop::Incomplete
+        | Stop::Range
+        | Stop::Axis
+        | Stop::Unnumbered
+        | Stop::OneStream => 2,
         Stop::Unopened => 3,
         Stop::NotShown | Stop::Unread => 4,
         Stop::Memory => 5,
@@ -98,6 +105,7 @@ fn text_of(stop: Stop) -> &'static str
         Stop::NoText => "tt_render: the command line is not UTF-8\n",
         Stop::Incomplete => "tt_render: the command line is incomplete; --box is WxH, as 384x120\n",
         Stop::Range => "tt_render: --range is hexadecimal, as 20-7E,A0-FF\n",
+        Stop::Axis => "tt_render: --axis is TAG=VALUE, as wght=700,wdth=87.5\n",
         Stop::Unnumbered => "tt_render: with --lines the FILE of -o has %d once, as label-%d.png\n",
         Stop::OneStream => "tt_render: --png with --lines goes with -o, as -o label-%d.png\n",
         Stop::Unopened => "tt_render: cannot read the font\n",

@@ -2,7 +2,6 @@
 use Rattle.std.proofs.Common.{◌≡◌, ℕ, Bool, List, Option, Some, None, Result, Ok, Err, inl, inr, refl}
 use Rattle.std.specs.Prelude.{IfSome}
 use Rattle.tt_advice.specs.declared.hint.Hint.{Hint}
-use Rattle.tt_core.specs.declared.collection.Reading.{Reading}
 use Rattle.tt_core.specs.declared.draw_fault.DrawFault.{DrawFault}
 use Rattle.tt_core.specs.declared.draw_fault.DrawFault.TheVariants as draw
 use Rattle.tt_render_streams.specs.declared.fault.RunFault.{RunFault}
@@ -31,14 +30,14 @@ if_some_all None P all = tt
 if_some_all (Some x) P all = all x
 
 -- a font that could not be read has no hint
-pub reading_hints : (e : RunFault) (before after : Option (List ℕ)) (failed : Bool) (file : List ℕ) (r : Reading)
-    → ReadFails e before after failed → ◌≡◌ {A = Option Hint} None (hint_for (refusal_of_run e) file r)
-reading_hints (run.Font f) before after failed file r fails = absurd fails
-reading_hints (run.Job j) before after failed file r fails = refl
-reading_hints run.Read before after failed file r fails = refl
-reading_hints run.FontLarge before after failed file r fails = refl
-reading_hints (run.Write sent) before after failed file r fails = refl
-reading_hints run.Memory before after failed file r fails = refl
+pub reading_hints : (e : RunFault) (before after : Option (List ℕ)) (failed : Bool) (file : List ℕ) (a : Setting)
+    → ReadFails e before after failed → ◌≡◌ {A = Option Hint} None (hint_for (refusal_of_run e) file a)
+reading_hints (run.Font f) before after failed file a fails = absurd fails
+reading_hints (run.Job j) before after failed file a fails = refl
+reading_hints run.Read before after failed file a fails = refl
+reading_hints run.FontLarge before after failed file a fails = refl
+reading_hints (run.Write sent) before after failed file a fails = refl
+reading_hints run.Memory before after failed file a fails = refl
 
 -- a strike of a tested size is made, unless memory runs out
 pub strike_unopened : (V : Type 0) (a : Setting) (opened : Result Strike Refused) (d : DrawFault)

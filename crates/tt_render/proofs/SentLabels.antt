@@ -1,7 +1,6 @@
 -- A label that is put into its place, or is not.
 use Rattle.std.proofs.Common.{◌≡◌, ℕ, ◌+◌, ◌≤◌, true, false, List, Option, None, Some, Result, Ok, Err, refl}
 use Rattle.tt_advice.specs.declared.hint.Hint.{Hint}
-use Rattle.tt_core.specs.declared.collection.Reading.{Reading}
 use Rattle.tt_core.specs.Directory.{HasNo}
 use Rattle.tt_core.specs.Faults.{Fault}
 use Rattle.tt_render.specs.Labels.{hint_for}
@@ -58,9 +57,9 @@ unsent d left after b t er number used first line answer e (put_fault.Cut sent) 
     rw is (cut_sent d left after b t er number used sent first line answer so_far loses enough made part.0 part.1, reads, fails)
 
 -- a label that is not put has no hint, and tells that the font has no defect
-pub put_hints : (f : NotPut) (file : List ℕ) (r : Reading) → ◌≡◌ {A = Option Hint} None (hint_for (refusal_of_put f) file r)
-put_hints put_fault.Uncreated file r = refl
-put_hints (put_fault.Cut sent) file r = refl
+pub put_hints : (f : NotPut) (file : List ℕ) (a : Setting) → ◌≡◌ {A = Option Hint} None (hint_for (refusal_of_put f) file a)
+put_hints put_fault.Uncreated file a = refl
+put_hints (put_fault.Cut sent) file a = refl
 
 pub put_tells : (IsOne : Fault → Type 0) (f : NotPut) → HasNo IsOne → TellsFor IsOne (refusal_of_put f)
 put_tells IsOne put_fault.Uncreated none = none

@@ -1,7 +1,7 @@
 -- No part of the standard: the answer of a text that is drawn as a label, by a font at a size (profile). A label is the
 -- picture of the lines of its text.
-use Rattle.std.specs.Prelude.{◌≡◌, ◌⊎◌, refl, ℕ, false, List, [], ◌∷◌, length, find, chars, encode_utf8_all, string_bytes, Option, Some, None, Result, Ok, Err, ⊤}
-use Rattle.tt_advice.specs.Advice.{advice}
+use Rattle.std.specs.Prelude.{◌≡◌, ◌⊎◌, refl, ℕ, false, List, [], ◌∷◌, length, find, chars, encode_utf8_all, string_bytes, Option, Some, None, is_some, Result, Ok, Err, ⊤}
+use Rattle.tt_advice.specs.Advice.{axis_advice}
 use Rattle.tt_advice.specs.declared.hint.Hint.{Hint}
 use Rattle.tt_advice.specs.declared.signs.Sign.{Sign}
 use Rattle.tt_advice.specs.declared.signs.Sign.TheVariants as sign
@@ -23,6 +23,7 @@ use Rattle.tt_rows.specs.Composed.{composed}
 use Rattle.tt_render_settings.specs.Help.{label_lines_of}
 use Rattle.tt_render_settings.specs.declared.label.Label.{Label}
 use Rattle.tt_render_settings.specs.declared.label.LabelsDrawn.{LabelsDrawn}
+use Rattle.tt_render_settings.specs.declared.setting.Setting.{Setting}
 use Rattle.tt_render.specs.declared.label_answers.ReadyLabel.{ReadyLabel}
 use Rattle.tt_render.specs.LabelSpaces.{HasSpace, IsMisfit, cost_in, cut_of, label_image, report_in}
 use Rattle.tt_render_texts.specs.declared.refusal.Refusal.{Refusal}
@@ -33,7 +34,7 @@ use Rattle.tt_render_texts.specs.declared.label_reports.Signs.{Signs}
 use Rattle.tt_render_settings.specs.Lines.{Drawing, Outlet, line_answer}
 use Rattle.tt_render_texts.specs.Printing.{Errors}
 use Rattle.tt_render_texts.specs.Reports.{label_report_of, told_view}
-use Rattle.tt_render_settings.specs.Settings.{job_by, setting_tested, strike_of}
+use Rattle.tt_render_settings.specs.Settings.{axes_in, job_by, setting_tested, strike_of}
 use Rattle.tt_label.specs.Label.{label_glyphs}
 use Rattle.tt_line.specs.Labels.{label_lines}
 use Rattle.tt_render_texts.specs.Answers.{LabelTold, TextAnswer}
@@ -77,7 +78,8 @@ face_number (reading.Wide face) = face
 
 -- the lines about a label's font, by its file
 abbrev pub label_notes : Label → List ℕ → List ℕ
-label_notes l file = font_notes l.path.now file (face_number l.setting.opening.reading) l.face_given
+label_notes l file =
+    font_notes l.path.now file (face_number l.setting.opening.reading) l.face_given (is_some l.setting.instance)
 
 -- what is reported of a label, by its font's file and by the ink that its picture lacks
 abbrev pub label_told : Label → List ℕ → CutInk → List ℕ → LabelTold
@@ -149,18 +151,18 @@ labels_drawing to l s =
     record { to = to; answer = line_labelled l s; tells = telling l.setting.keep_going (label_told_of l) }
 
 -- what is reported to a person of the font's file, where the font is refused
-abbrev pub hint_for : Refusal → List ℕ → Reading → Option Hint
-hint_for (reason.Font f) file r = Some (advice f file (face_number r))
-hint_for why file r = None
+abbrev pub hint_for : Refusal → List ℕ → Setting → Option Hint
+hint_for (reason.Font f) file a = Some (axis_advice f file (face_number a.opening.reading) (axes_in a))
+hint_for why file a = None
 
 -- the hint of an answer
-abbrev pub hint_of : Result (Option TextsFault) TextsFault → List ℕ → Reading → Option Hint
-hint_of (Ok u) file r = None
-hint_of (Err fault) file r = hint_for fault.refusal file r
+abbrev pub hint_of : Result (Option TextsFault) TextsFault → List ℕ → Setting → Option Hint
+hint_of (Ok u) file a = None
+hint_of (Err fault) file a = hint_for fault.refusal file a
 
 -- the hint beside an answer is that about the font's file
 abbrev pub HintsBy : Label → LabelsDrawn → List ℕ → Type 0
-HintsBy l e file = e.hint ≡ hint_of e.answer file l.setting.opening.reading
+HintsBy l e file = e.hint ≡ hint_of e.answer file l.setting
 
 -- a call stopped for the space of its label; or it stopped before it drew the text, or memory ran out by then; or it drew
 -- the text by a font

@@ -49,7 +49,8 @@ pub(crate) fn notes_of(alloc: Global, file: &[u8], asked: &Label) -> Result<Stri
     ensures { IfOk result (λ text. string_bytes text ≡ label_notes asked.now file.now) }
 {
     let face = face_number(asked.setting.opening.reading);
-    font_notes(alloc, asked.path, file, face, asked.face_given)
+    let instance = asked.setting.instance.is_some();
+    font_notes(alloc, asked.path, file, face, asked.face_given, instance)
 }
 
 /// The answer of a text whose letters are composed. Errors, the first of: those of `label_picture`; Missing.

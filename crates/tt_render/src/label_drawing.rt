@@ -23,7 +23,7 @@ ghost use Rattle.tt_strike.specs.Job.{tested};
 use crate::label_answers::{ReadyLabel, answer_label, face_number, notes_of};
 use std::alloc::Global;
 use std::str;
-use tt_advice::{Hint, advice};
+use tt_advice::{Hint, axis_advice};
 use tt_core::{Sink, Source};
 use tt_render_settings::{
     Found, Label, LabelsDrawn, earlier, goes_on, label_lines, next_line, refused_cost,
@@ -38,14 +38,13 @@ use tt_strike::{Face, Strike, test_job};
 /// What is reported to a person of the font's file, where the font is refused.
 fn hint_for(refusal: Refusal, file: &[u8], asked: &Label) -> Option<Hint>
     requires { length file.now ≤ font_limit }
-    ensures { result ≡ hint_for refusal file.now asked.now.setting.opening.reading }
+    ensures { result ≡ hint_for refusal file.now asked.now.setting }
 {
     match refusal {
-        Refusal::Font(fault) => Some(advice(
-            fault,
-            file,
-            face_number(asked.setting.opening.reading),
-        )),
+        Refusal::Font(fault) => {
+            let face = face_number(asked.setting.opening.reading);
+            Some(axis_advice(fault, file, face, asked.setting.axes()))
+        }
         Refusal::Job(_)
         | Refusal::Space(_)
         | Refusal::NotUtf8
@@ -63,7 +62,7 @@ fn hint_for(refusal: Refusal, file: &[u8], asked: &Label) -> Option<Hint>
 /// A fault with the hint about the font's file.
 fn hinted(fault: TextsFault, file: &[u8], asked: &Label) -> LabelsDrawn
     requires { length file.now ≤ font_limit }
-    ensures { result ≡ record { answer = Err fault; hint = hint_for fault.refusal file.now asked.now.setting.opening.reading } }
+    ensures { result ≡ record { answer = Err fault; hint = hint_for fault.refusal file.now asked.now.setting } }
 {
     let hint = hint_for(fault.refusal, file, asked);
     LabelsDrawn {
@@ -92,8 +91,8 @@ fn done(first: Option<TextsFault>) -> LabelsDrawn
     }
 }
 
-/// The answer of the one text by a font file. Errors, the first of: Font, of the tables needed for every text; those of
-/// `answer_label`. Memory may come at any allocation.
+/// The answer of the one text by a font file. Errors, the first of: Font, of the tables needed for every text and of the
+/// instance; those of `answer_label`. Memory may come at any allocation.
 fn draw<'n>(
     alloc: Global,
     file: &[u8],
@@ -109,7 +108,7 @@ fn draw<'n>(
     ensures valid { IfOk result CanGoOut }
     ensures report { IfOk result (TellsLabel None) }
 {
-    let face = Face::read_with(file, asked.setting.opening)?;
+    let face = Face::read_at(file, asked.setting.opening, asked.setting.instance)?;
     let mut strike = Strike::new(alloc, &face, asked.setting.ppem, asked.setting.fit, 0)?;
     match answer_label(alloc, &mut strike, notes, asked, None, text) {
         Ok(ready) => Ok(ready),
@@ -124,8 +123,8 @@ fn draw<'n>(
 /// that report the lines about the font. A failure of `error` does not change the answer.
 ///
 /// Errors, the first of these, with no line: Job (SizeRange, MarginRange), Space (WidthRange, BoxRange) and Job (TextLong, of
-/// more than 4,096 characters), before the font is read; FontRead, FontLarge; Font, of the tables needed for every text; Font and
-/// Job of `label`; Space (BoxSmall, of a text that fits into its box at no size); Missing; Create; and Write. Memory may come at any allocation, and then nothing was written. A fault of the font has the hint
+/// more than 4,096 characters), before the font is read; FontRead, FontLarge; Font, of the tables needed for every text and of
+/// the instance; Font and Job of `label`; Space (BoxSmall, of a text that fits into its box at no size); Missing; Create; and Write. Memory may come at any allocation, and then nothing was written. A fault of the font has the hint
 /// about the font's file.
 pub fn draw_label<R: Source, P: Pictures, E: Sink>(
     alloc: Global,
@@ -316,7 +315,7 @@ fn draw_labels_of<R: Source, P: Pictures, E: Sink>(
     ensures outcome { FileLabelsGive (places P.shown) asked.now file.now result (traffic_of R.left R.has_failed P.written P.has_failed lines.old lines.new out.old out.new) (errors_of E.written E.has_failed error.old error.new) }
     ensures defects { ClaimsIfSized asked.now.space (LinesTellDefects composed_glyphs asked.now.setting (R.left lines.old) result file.now) }
 {
-    let face = Face::read_with(file, asked.setting.opening)?;
+    let face = Face::read_at(file, asked.setting.opening, asked.setting.instance)?;
     let setting = asked.setting;
     let mut strike = Strike::new(alloc, &face, setting.ppem, setting.fit, setting.most)?;
     let notes = notes_of(alloc, file, asked)?;
@@ -331,7 +330,7 @@ fn draw_labels_of<R: Source, P: Pictures, E: Sink>(
 /// the lines share the budget of `draw_lines`.
 ///
 /// Errors, the first of: Job (SizeRange, MarginRange) and Space (WidthRange, BoxRange), before the font is read; FontRead, FontLarge;
-/// Font, of the tables needed for every text; then, line by line, with the line's number, from 1: Read; Job (TextLong, of more than
+/// Font, of the tables needed for every text and of the instance; then, line by line, with the line's number, from 1: Read; Job (TextLong, of more than
 /// 16,384 bytes; WorkLarge, where the lines before it took more than their budget); NotUtf8; Font and Job of `label`;
 /// Space (BoxSmall); Missing; Create, where no place is made for its picture; and Write. Many comes after 4,294,967,295 lines, and after
 /// 2^64 - 1 reads of one line. Memory may come at any allocation. A fault of the font has the hint about the font's file.
@@ -348,8 +347,8 @@ pub fn draw_labels<F: Source, R: Source, P: Pictures, E: Sink>(
     requires out { P.has_failed out.old ≡ false }
     requires error { E.has_failed error.old ≡ false }
     ensures outcome { FontLabelsGive (places P.shown) asked.now result.answer (font_reader_of F.left F.has_failed font.old font.new) (traffic_of R.left R.has_failed P.written P.has_failed lines.old lines.new out.old out.new) (errors_of E.written E.has_failed error.old error.new) }
-    // A font's fault in an answer is a defect of the font: of the tables needed for every text, or of the data that the
-    // numbered line is drawn from.
+    // A font's fault in an answer is a defect of the font: of the tables needed for every text, of the instance, or of
+    // the data that the numbered line is drawn from.
     ensures defects { ClaimsIfSized asked.now.space (LinesTellDefectsOf composed_glyphs (F.left font.old) asked.now.setting (R.left lines.old) result.answer) }
     ensures hint { IfSome (F.left font.old) (HintsBy asked.now result) }
 {

@@ -1,26 +1,25 @@
 -- The steps of a call that writes the measure of a text without its ink, joined.
-use Rattle.std.proofs.Common.{◌≡◌, ◌∙◌, ℕ, List, ◌++◌, append_assoc, codes, decimal, flat_map, Bool, true, false, None, Ok, Err, inl, inr, refl}
+use Rattle.std.proofs.Common.{◌≡◌, ◌∙◌, ℕ, List, ◌++◌, append_assoc, codes, decimal, flat_map, None, Ok, Err, inl, inr, refl}
 use Rattle.std.specs.Fmt.{signed_decimal}
 use Rattle.std.specs.Prelude.{IfSome}
 use Rattle.tt_core.specs.declared.collection.Reading.{Reading}
 use Rattle.tt_core.specs.declared.draw_fault.DrawFault.{DrawFault}
 use Rattle.tt_core.specs.declared.draw_fault.DrawFault.TheVariants as draw
 use Rattle.tt_face.specs.Faces.{Face}
-use Rattle.tt_face.specs.Files.{IsFaceDefectBy, face_with}
 use Rattle.tt_core.specs.Directory.{HasNo}
 use Rattle.tt_core.specs.Faults.{Fault}
 use Rattle.tt_render_texts.specs.declared.refusal.Refusal.{Refusal}
 use Rattle.tt_render_texts.specs.declared.refusal.Refusal.TheVariants as reason
 use Rattle.tt_render_settings.specs.declared.setting.Setting.{Setting}
-use Rattle.tt_render_lines.specs.LayoutTexts.{IsLaidDefect, IsLayoutDefect, IsReadDefect, laid_text, layout_answer, layout_text, line_text, pen_text, size_text}
+use Rattle.tt_render_lines.specs.LayoutTexts.{IsLaidDefect, IsLayoutDefect, laid_text, layout_answer, layout_text, line_text, pen_text, size_text}
 use Rattle.tt_render_settings.specs.MeasureText.{face_text, font_text}
-use Rattle.tt_render_settings.specs.Settings.{job_by}
+use Rattle.tt_render_settings.specs.Settings.{IsOpeningDefect, face_asked, job_by}
 use Rattle.tt_render_settings.specs.TextsOutcome.{IsOfText, TextTellsDefects, refusal_font_fault, told}
 use Rattle.tt_render_texts.specs.Views.{before_lines, refusal_of_draw}
 use Rattle.tt_strike.specs.declared.layouts.Layout.{Layout}
 use Rattle.tt_strike.specs.declared.layouts.Pen.{Pen}
 use Rattle.tt_strike.specs.Job.{Job}
-use Rattle.tt_strike.specs.Layouts.{TellsMadeDefects, pens_outcome}
+use Rattle.tt_strike.specs.Layouts.{pens_outcome}
 use Rattle.tt_strike.specs.Refusals as drawing
 use Rattle.tt_strike.specs.Strikes.{Strike, job_of}
 
@@ -60,24 +59,9 @@ lines_stop a s text (draw.Font f) is = rw is refl
 lines_stop a s text (draw.Job j) is = rw is refl
 lines_stop a s text draw.Memory is = tt
 
--- what is told of defects where pens are refused, and where they are made
-pub made_tell : (V : Type 0) (b : Bool) (P : Fault → Type 0) (d : DrawFault) → TellsMadeDefects {V = V} b P (Err d)
-    → IfSome (refusal_font_fault (refusal_of_draw d)) (IsReadDefect b P)
-made_tell V true P (draw.Font f) tells = tells
-made_tell V true P (draw.Job j) tells = tt
-made_tell V true P draw.Memory tells = tt
-made_tell V false P (draw.Font f) tells = tells
-made_tell V false P (draw.Job j) tells = tt
-made_tell V false P draw.Memory tells = tt
-
-pub none_made : (V : Type 0) (b : Bool) (P : Fault → Type 0) (v : V) → TellsMadeDefects {V = V} b P (Ok v)
-    → HasNo (IsReadDefect b P)
-none_made V true P v none = none
-none_made V false P v none = λ fault defect. defect
-
 -- a defect by a font's tables is one by the font's file
 pub layout_tells : (V : Type 0) (a : Setting) (text file : List ℕ) (face : Face) (why : Refusal)
-    → face_with file a.opening ≡ Ok face
+    → face_asked a file ≡ Ok face
     → IfSome (refusal_font_fault why) (IsLaidDefect face (job_by a text)) → IsOfText {V = V} (Err why)
     → TextTellsDefects {V = V} (IsLayoutDefect a text file) (Err (before_lines why))
 layout_tells V a text file face (reason.Font f) there stands serves = inr (rw there stands)
@@ -94,8 +78,8 @@ layout_tells V a text file face reason.Many there stands serves = tt
 layout_tells V a text file face reason.Memory there stands serves = tt
 
 -- so the file has none where the tables have none
-pub none_by_layout : (a : Setting) (text file : List ℕ) (face : Face) → face_with file a.opening ≡ Ok face
-    → HasNo (IsFaceDefectBy file a.opening.reading) → HasNo (IsLaidDefect face (job_by a text))
+pub none_by_layout : (a : Setting) (text file : List ℕ) (face : Face) → face_asked a file ≡ Ok face
+    → HasNo (IsOpeningDefect a file) → HasNo (IsLaidDefect face (job_by a text))
     → HasNo (IsLayoutDefect a text file)
 none_by_layout a text file face there none line = λ fault defect. elim defect [
   | inl tables ↦ none fault tables

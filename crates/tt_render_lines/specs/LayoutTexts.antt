@@ -1,6 +1,6 @@
 -- No part of the standard: the measure of a text without its ink (profile), as lines of text, and its answer by a font
 -- at a size. The unfitted glyphs of such a text are not reported.
-use Rattle.std.specs.Prelude.{◌≡◌, refl, ℕ, pos, negsuc, Bool, true, false, List, [], ◌∷◌, ◌++◌, flat_map, string_bytes, codes, decimal, None, Result, Ok, Err}
+use Rattle.std.specs.Prelude.{◌≡◌, refl, ℕ, pos, negsuc, List, [], ◌∷◌, ◌++◌, flat_map, string_bytes, codes, decimal, None, Result, Ok, Err, ◌⊎◌}
 use Rattle.std.specs.Fmt.{digits, signed_decimal}
 use Rattle.tt_core.specs.declared.collection.Reading.{Reading}
 use Rattle.tt_core.specs.Faults.{Fault}
@@ -13,19 +13,17 @@ use Rattle.tt_render_streams.specs.CodePoints.{code_point}
 use Rattle.tt_render_streams.specs.Traffic.{Traffic}
 use Rattle.tt_strike.specs.declared.layouts.Layout.{Layout}
 use Rattle.tt_strike.specs.declared.layouts.Pen.{Pen}
-use Rattle.tt_strike.specs.Defects.{IsLineDefect}
-use Rattle.tt_strike.specs.Job.{IsFontDefect, Job}
-use Rattle.tt_strike.specs.Layouts.{layout_outcome, pens_outcome}
+use Rattle.tt_strike.specs.Job.{Job}
+use Rattle.tt_strike.specs.Layouts.{HasLayoutDefect, layout_outcome, pens_outcome}
 use Rattle.tt_strike.specs.Refusals.{Refused}
 use Rattle.tt_strike.specs.Strikes.{Strike, job_of}
-use Rattle.tt_strike.specs.Work.{is_bounded}
 use Rattle.tt_render_lines.specs.declared.layout_answers.ReadyLayout.{ReadyLayout}
 use Rattle.tt_render_texts.specs.declared.refusal.TextsFault.{TextsFault}
 use Rattle.tt_render_settings.specs.declared.setting.Setting.{Setting}
 use Rattle.tt_render_settings.specs.MeasureText.{face_text, font_text}
 use Rattle.tt_render_texts.specs.Printing.{Errors}
 use Rattle.tt_render_texts.specs.Reports.{report_text_of}
-use Rattle.tt_render_settings.specs.Settings.{job_by}
+use Rattle.tt_render_settings.specs.Settings.{ByFaceAsked, IsOpeningDefect}
 use Rattle.tt_render_texts.specs.Answers.{TextAnswer}
 use Rattle.tt_render_settings.specs.Texts.{TextRefusal, answer_of, missing_tested}
 use Rattle.tt_render_settings.specs.Lines.{stream}
@@ -89,19 +87,13 @@ LayoutReadies answer opened (Err fault) = IsNotReady answer opened fault.refusal
 abbrev pub FontLayoutGives : {V : Type 0} → Setting → List ℕ → Result V TextsFault → Traffic → Errors → Type 0
 FontLayoutGives a text r t e = FontAnswers stream a (λ s. layout_answer a s text) text r t e
 
--- a defect of the data that a text without ink is laid out from: where glyphs are made, one of these; else no glyph is
--- read
-abbrev pub IsReadDefect : Bool → (Fault → Type 0) → Fault → Type 0
-IsReadDefect true IsOne f = IsOne f
-IsReadDefect false IsOne f = ⊥
-
 -- a defect that stops the lines of a job, by a face
 abbrev pub IsLaidDefect : Face → Job → Fault → Type 0
-IsLaidDefect face j f = IsReadDefect (is_bounded j.fit) (IsLineDefect face j (text_glyphs face.cmap j.text)) f
+IsLaidDefect face j f = HasLayoutDefect face j (text_glyphs face.cmap j.text) f
 
--- a defect of the tables that every text needs, or of the data that this text is laid out from
+-- a defect of the tables that every text needs, of the instance, or of the data that this text is laid out from
 abbrev pub IsLayoutDefect : Setting → List ℕ → List ℕ → Fault → Type 0
-IsLayoutDefect a text file f = IsFontDefect IsLaidDefect a.opening (job_by a text) file f
+IsLayoutDefect a text file f = IsOpeningDefect a file f ⊎ ByFaceAsked (λ face j. IsLaidDefect face j f) a text file
 
 -- worked values: two units of four columns and of three, after a margin of one
 a_layout : Layout

@@ -13,12 +13,11 @@ ghost use Rattle.tt_render_settings.specs.Texts.{text_answer};
 ghost use Rattle.tt_render_settings.specs.TextsOutcome.{FontTextGives, TextTellsDefects, TextTellsDefectsOf, FontLinesGive, IsOfText, LinesGive, StopsPassing, earlier, goes_on, lines_drawing, refusal_font_fault, told, without_line};
 ghost use Rattle.tt_render_lines.specs.Outputs.{IsNotSent, ReadiesText, TellsOf, answer_view, bytes_in};
 ghost use Rattle.tt_line.specs.Layout.{text_glyphs};
-ghost use Rattle.tt_strike.specs.Defects.{IsRunDefect};
 ghost use Rattle.tt_strike.specs.Job.{tested};
 ghost use Rattle.tt_core.specs.Outcomes.{GivesUnless, IfTold};
 ghost use Rattle.tt_render_settings.specs.Lines.{line_drawn};
 ghost use Rattle.tt_render_texts.specs.Lines.{line_limit};
-ghost use Rattle.tt_render_settings.specs.LinesDefects.{IsDefectBy, LinesTell, LinesTellDefectsOf};
+ghost use Rattle.tt_render_settings.specs.LinesDefects.{IsDefectBy, IsTextDefect, LinesTell, LinesTellDefectsOf};
 ghost use Rattle.tt_render_streams.specs.Reading.{font_reader_of};
 
 use crate::products::write_output;
@@ -31,17 +30,17 @@ use tt_render_streams::read_font;
 use tt_render_texts::{LineReader, Refusal, TextsFault, print_text, texts_fault, texts_line};
 use tt_strike::{Face, Strike, test_job};
 
-/// The answer of the one text by a font file. Errors, the first of: Font, of the tables needed for every text; those of
-/// `answer_text`. Memory may come at any allocation.
+/// The answer of the one text by a font file. Errors, the first of: Font, of the tables needed for every text and of the
+/// instance; those of `answer_text`. Memory may come at any allocation.
 fn draw(alloc: Global, file: &[u8], text: &str, setting: &Setting) -> Result<ReadyText, TextsFault>
     requires size { length file.now ≤ font_limit }
     requires tested { tested (job_by setting.now text.now) ≡ Ok tt }
     ensures outcome { ReadiesText (λ s. text_answer setting.now s text.now) (strike_of setting.now file.now) result }
-    ensures defects { TextTellsDefects (IsRunDefect setting.now.opening (job_by setting.now text.now) file.now) result }
+    ensures defects { TextTellsDefects (IsTextDefect text_glyphs setting.now text.now file.now) result }
     ensures valid { IfOk result (λ r. CanGoOut r.output) }
     ensures report { IfOk result (TellsOf None) }
 {
-    let face = Face::read_with(file, setting.opening)?;
+    let face = Face::read_at(file, setting.opening, setting.instance)?;
     // There is no other line, so no glyph is cached.
     let mut strike = Strike::new(alloc, &face, setting.ppem, setting.fit, 0)?;
     match answer_text(alloc, &mut strike, file, setting, None, text) {
@@ -56,8 +55,8 @@ fn draw(alloc: Global, file: &[u8], text: &str, setting: &Setting) -> Result<Rea
 /// change the answer.
 ///
 /// Errors, the first of these, with no line: Job (SizeRange, MarginRange, and TextLong, of more than 4,096 characters),
-/// before the font is read; FontRead, FontLarge; Font, of the tables needed for every text; Font and Job of
-/// `make_picture` or `make_measure`; Missing; and Write. Memory may come at any allocation, and then nothing was
+/// before the font is read; FontRead, FontLarge; Font, of the tables needed for every text and of the instance; Font and
+/// Job of `make_picture` or `make_measure`; Missing; and Write. Memory may come at any allocation, and then nothing was
 /// written.
 pub fn draw_text<R: Source, W: Sink, E: Sink>(
     alloc: Global,
@@ -73,7 +72,7 @@ pub fn draw_text<R: Source, W: Sink, E: Sink>(
     // Either the call stopped before the text was drawn, and did nothing else. Or the font was read to its end and
     // opened, and the writing and printing are as defined for the text by that font.
     ensures outcome { FontTextGives setting.now text.now result (traffic_of R.left R.has_failed W.written W.has_failed font.old font.new out.old out.new) (errors_of E.written E.has_failed error.old error.new) }
-    ensures defects { TextTellsDefectsOf (R.left font.old) (IsRunDefect setting.now.opening (job_by setting.now text.now)) result }
+    ensures defects { TextTellsDefectsOf (R.left font.old) (IsTextDefect text_glyphs setting.now text.now) result }
 {
     test_job(&setting.job(text))?;
     let file = read_font(alloc, font)?;
@@ -252,7 +251,7 @@ fn draw_lines_by<R: Source, W: Sink, E: Sink>(
 /// them. Returns the bytes of the glyphs that are cached at the end too, which are at most the setting's `most`.
 ///
 /// Errors, the first of: Job (SizeRange, MarginRange), before the font is read; FontRead, FontLarge; Font, of the
-/// tables needed for every text; then, line by line, with the line's number, from 1: Read; Job (TextLong, of more than
+/// tables needed for every text and of the instance; then, line by line, with the line's number, from 1: Read; Job (TextLong, of more than
 /// 16,384 bytes; WorkLarge, where the lines before it took more than their budget); NotUtf8; Font and Job of
 /// `make_picture` or `make_measure`; Missing; and Write. Many comes after 4,294,967,295 lines, and after 2^64 - 1 reads of
 /// one line. Memory may come at any allocation.
@@ -272,14 +271,14 @@ pub fn draw_lines<F: Source, R: Source, W: Sink, E: Sink>(
     // Either the call stopped before it read a line, and did nothing else. Or the font was read to its end and opened,
     // and the reading, writing and printing are as defined for the lines by that font.
     ensures outcome { FontLinesGive (λ drawn. drawn.refused) setting.now result (font_reader_of F.left F.has_failed font.old font.new) (traffic_of R.left R.has_failed W.written W.has_failed lines.old lines.new out.old out.new) (errors_of E.written E.has_failed error.old error.new) }
-    // A font's fault in an error is a defect of the font: of the tables needed for every text, or of the data that the
-    // numbered line is drawn from.
+    // A font's fault in an error is a defect of the font: of the tables needed for every text, of the instance, or of the
+    // data that the numbered line is drawn from.
     ensures defects { LinesTellDefectsOf text_glyphs (F.left font.old) setting.now (R.left lines.old) result }
     ensures kept { IfOk result (λ drawn. drawn.kept ≤ setting.now.most) }
 {
     test_setting(setting)?;
     let file = read_font(alloc, font)?;
-    let face = Face::read_with(&file, setting.opening)?;
+    let face = Face::read_at(&file, setting.opening, setting.instance)?;
     let mut strike = Strike::new(alloc, &face, setting.ppem, setting.fit, setting.most)?;
     draw_lines_by(alloc, &mut strike, &file, lines, out, error, setting)
 }

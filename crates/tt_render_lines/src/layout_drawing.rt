@@ -18,8 +18,8 @@ use tt_render_streams::read_font;
 use tt_render_texts::{Refusal, TextsFault, print_text, texts_fault};
 use tt_strike::{Face, SizedFace, test_job};
 
-/// The answer of the one text by a font file. Errors, the first of: Font, of the tables needed for every text; those of
-/// `answer_layout`. Memory may come at any allocation.
+/// The answer of the one text by a font file. Errors, the first of: Font, of the tables needed for every text and of the
+/// instance; those of `answer_layout`. Memory may come at any allocation.
 fn lay_out(
     alloc: Global,
     file: &[u8],
@@ -32,7 +32,7 @@ fn lay_out(
     ensures defects { TextTellsDefects (IsLayoutDefect setting.now text.now file.now) result }
     ensures report { IfOk result TellsLayout }
 {
-    let face = Face::read_with(file, setting.opening)?;
+    let face = Face::read_at(file, setting.opening, setting.instance)?;
     let mut sized = SizedFace::new(alloc, &face, setting.ppem, setting.fit)?;
     match answer_layout(alloc, &mut sized, file, setting, text) {
         Ok(ready) => Ok(ready),
@@ -46,8 +46,8 @@ fn lay_out(
 /// made. The setting's fields `grow`, `product` and `most` are not used.
 ///
 /// Errors, the first of these, with no line: Job (SizeRange, MarginRange, and TextLong, of more than 4,096 characters),
-/// before the font is read; FontRead, FontLarge; Font, of the tables needed for every text; Font and Job of
-/// `SizedFace::pens`; Missing; and Write. Memory may come at any allocation, and then nothing was written.
+/// before the font is read; FontRead, FontLarge; Font, of the tables needed for every text and of the instance; Font and
+/// Job of `SizedFace::pens`; Missing; and Write. Memory may come at any allocation, and then nothing was written.
 pub fn write_layout<R: Source, W: Sink, E: Sink>(
     alloc: Global,
     font: &mut R,

@@ -17,7 +17,7 @@ use Rattle.tt_render_settings.specs.Lines.{Drawing}
 use Rattle.tt_render_settings.specs.LinesDefects.{BeginsDefective, GlyphsOf, IsDefectBy, IsDefectIn, LineTells, LineTellsDefect, LinesTell, LinesTellDefects, LinesTellDefectsOf, line_numbered}
 use Rattle.tt_render_texts.specs.Printing.{Errors}
 use Rattle.tt_render_texts.specs.streams.Reading.{ReadFails}
-use Rattle.tt_render_settings.specs.Settings.{strike_by}
+use Rattle.tt_render_settings.specs.Settings.{face_asked, strike_by}
 use Rattle.tt_render_settings.specs.TextsOutcome.{FindsLine, refusal_font_fault}
 use Rattle.tt_render_texts.specs.Views.{before_lines, refusal_of_draw, refusal_of_run}
 use Rattle.tt_render_settings.proofs.DrawnLines.{SoFar}
@@ -25,7 +25,6 @@ use Rattle.tt_strike.specs.Defects.{TellsDefects}
 use Rattle.tt_core.specs.declared.draw_fault.DrawFault.{DrawFault}
 use Rattle.tt_core.specs.declared.draw_fault.DrawFault.TheVariants as draw
 use Rattle.tt_face.specs.Faces.{Face}
-use Rattle.tt_face.specs.Files.{face_with}
 
 pub if_some_more : {X : Type 0} (o : Option X) (P Q : X → Type 0) → ((x : X) → P x → Q x) → IfSome o P → IfSome o Q
 if_some_more None P Q more h = tt
@@ -105,7 +104,7 @@ unbegun_tells IsOne text j line = tt
 
 -- a defect of a line by a font's tables is one by the font's file
 line_tells : (glyphs : GlyphsOf) (a : Setting) (file : List ℕ) (face : Face) (text : Option (List ℕ)) (why : Refusal)
-    (line : Option ℕ) → face_with file a.opening ≡ Ok face → LineTells (IsDefectBy glyphs a (strike_by a face)) text why line
+    (line : Option ℕ) → face_asked a file ≡ Ok face → LineTells (IsDefectBy glyphs a (strike_by a face)) text why line
     → LineTellsDefect glyphs a text why line file
 line_tells glyphs a file face text (reason.Font f) None there tells = absurd tells
 line_tells glyphs a file face text (reason.Font f) (Some n) there tells =
@@ -123,7 +122,7 @@ line_tells glyphs a file face text reason.Many line there tells = tt
 line_tells glyphs a file face text reason.Memory line there tells = tt
 
 pub lines_tell : {V : Type 0} (glyphs : GlyphsOf) (a : Setting) (file : List ℕ) (face : Face) (text : Option (List ℕ))
-    (r : Result V TextsFault) → face_with file a.opening ≡ Ok face
+    (r : Result V TextsFault) → face_asked a file ≡ Ok face
     → LinesTell (IsDefectBy glyphs a (strike_by a face)) text r → LinesTellDefects glyphs a text r file
 lines_tell glyphs a file face text (Ok v) there tells = tt
 lines_tell glyphs a file face text (Err fault) there tells =

@@ -1,5 +1,5 @@
 -- A call that stops before it reads a line, and the font that lines are drawn by.
-use Rattle.std.proofs.Common.{◌≡◌, ◌∙◌, ap, sym, ℕ, ◌≤◌, Bool, false, nat_lt, List, length, Option, None, Result, Ok, Err, IfSome, refl, arith}
+use Rattle.std.proofs.Common.{◌≡◌, ◌∙◌, ap, sym, ℕ, ◌≤◌, Bool, true, false, nat_lt, if◌then◌else◌, List, length, Option, Some, None, Result, Ok, Err, IfSome, ℤ, refl, arith}
 use Rattle.std.proofs.lemmas.Bool.Decides.{nat_tests}
 use Rattle.tt_core.specs.Chains.{came-through}
 use Rattle.tt_core.specs.Collections.{directory_at, directory_by, offset_of}
@@ -17,7 +17,8 @@ use Rattle.tt_strike.specs.Job.{size_tested}
 use Rattle.tt_strike.specs.Refusals.{Refused, as_job, font, refusal}
 use Rattle.tt_face.specs.Faces.{Face, cmap_tag}
 use Rattle.tt_face.specs.declared.rules.Opening.{Opening}
-use Rattle.tt_face.specs.Files.{face_at, face_by, face_with}
+use Rattle.tt_face.specs.Files.{face_at, face_by}
+use Rattle.tt_face.specs.Instance.{Asked, asked_coordinates, face_at_asked, face_at_coordinates, face_at_instance, face_by_gvar}
 use Rattle.tt_face.specs.Rules.{ruled}
 use Rattle.tt_metrics.specs.Metrics.{glyphs_of, metrics_of}
 use Rattle.tt_render_texts.specs.streams.declared.fault.RunFault.{RunFault}
@@ -25,7 +26,7 @@ use Rattle.tt_render_texts.specs.streams.declared.fault.RunFault.TheVariants as 
 use Rattle.tt_render_settings.specs.declared.setting.Setting.{Setting}
 use Rattle.tt_render_settings.specs.TextsOutcome.{IsIdle, StopsAtFont}
 use Rattle.tt_render_texts.specs.streams.Reading.{FontIsRead, FontReader, ReadFails}
-use Rattle.tt_render_settings.specs.Settings.{setting_tested, strike_by, strike_of}
+use Rattle.tt_render_settings.specs.Settings.{face_asked, setting_tested, strike_by, strike_of}
 use Rattle.tt_render_texts.specs.Views.{before_lines, refusal_of_draw, refusal_of_run}
 use Rattle.tt_render_texts.proofs.Printed.{keeps_itself}
 
@@ -71,22 +72,50 @@ read_file file r face was =
     let kept = directory-kept (directory_at file by_offset.value) d by_offset.rest in
     ap (λ (e : Directory). e.file) (sym kept ∙ face_directory d r face by_directory.rest)
 
-pub face_file : (file : List ℕ) (o : Opening) (face : Face) → face_with file o ≡ Ok face → file ≡ face.directory.file
-unfolding face_with ruled
-face_file file o face was =
+-- a face, or another one with the same directory
+either_directory : {X : Type 0} (b : Bool) (face varied : Face) (r : Result X Fault) (other : X → Face)
+    → ((x : X) → face.directory ≡ (other x).directory) → (if b then Ok face else (r >>= λ x. Ok (other x))) ≡ Ok varied
+    → face.directory ≡ varied.directory
+either_directory true face varied r other keeps was = let same : face ≡ varied = cc in ap (λ (f : Face). f.directory) same
+either_directory false face varied r other keeps was =
+    let read = came-through r _ varied was in
+    let same : other read.value ≡ varied = let rest = read.rest in cc in
+    keeps read.value ∙ ap (λ (f : Face). f.directory) same
+
+-- an instance keeps the directory of its face
+coordinates_directory : (face : Face) (c : List ℤ) (varied : Face) → face_at_coordinates face c ≡ Ok varied
+    → face.directory ≡ varied.directory
+unfolding face_at_coordinates
+coordinates_directory face c varied was =
+    either_directory _ face varied _ (face_by_gvar face c) (λ x. refl) was
+
+asked_directory : (face : Face) (asked : Option Asked) (varied : Face) → face_at_asked face asked ≡ Ok varied
+    → face.directory ≡ varied.directory
+asked_directory face None varied was = let same : face ≡ varied = cc in ap (λ (f : Face). f.directory) same
+asked_directory face (Some a) varied was =
+    let by_asked = came-through (asked_coordinates face.directory a) (face_at_coordinates face) varied was in
+    coordinates_directory face by_asked.value varied by_asked.rest
+
+pub face_file : (file : List ℕ) (o : Opening) (asked : Option Asked) (face : Face)
+    → face_at_instance file o asked ≡ Ok face → file ≡ face.directory.file
+unfolding face_at_instance ruled
+face_file file o asked face was =
     let read = came-through (face_by file o.reading) _ face was in
-    let same : ruled o.rules read.value ≡ face = let rest = read.rest in cc in
-    read_file file o.reading read.value read.first ∙ ap (λ (f : Face). f.directory.file) same
+    let at = came-through (face_at_asked read.value asked) _ face read.rest in
+    let same : ruled o.rules at.value ≡ face = let rest = at.rest in cc in
+    read_file file o.reading read.value read.first
+    ∙ (ap (λ (d : Directory). d.file) (asked_directory read.value asked at.value at.first)
+    ∙ ap (λ (f : Face). f.directory.file) same)
 
 -- the tables of a font that is not too large
-pub font_opened : (a : Setting) (file : List ℕ) (face : Face) → length file ≤ font_limit → face_with file a.opening ≡ Ok face
+pub font_opened : (a : Setting) (file : List ℕ) (face : Face) → length file ≤ font_limit → face_asked a file ≡ Ok face
     → strike_of a file ≡ Ok (strike_by a face)
 unfolding strike_of
 font_opened a file face small there =
     let fits : nat_lt font_limit (length file) ≡ false = grind (arith, nat_tests) in
     rw (fits, there) refl
 
-pub font_refused : (a : Setting) (file : List ℕ) (f : Fault) → length file ≤ font_limit → face_with file a.opening ≡ Err f
+pub font_refused : (a : Setting) (file : List ℕ) (f : Fault) → length file ≤ font_limit → face_asked a file ≡ Err f
     → strike_of a file ≡ Err (font f)
 unfolding strike_of
 font_refused a file f small there =

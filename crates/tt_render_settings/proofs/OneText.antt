@@ -17,7 +17,7 @@ use Rattle.tt_render_texts.specs.Printing.{Errors, Prints, PrintsNothing}
 use Rattle.tt_render_texts.specs.streams.Reading.{FontIsRead, ReadFails}
 use Rattle.tt_render_texts.specs.Reports.{told_of}
 use Rattle.tt_render_settings.specs.Lines.{Outlet}
-use Rattle.tt_render_settings.specs.Settings.{job_by, strike_of}
+use Rattle.tt_render_settings.specs.Settings.{IsOpeningDefect, face_asked, job_by, strike_of}
 use Rattle.tt_render_settings.specs.TextsOutcome.{FontAnswers, IsNotReady, IsOfText, IsAtFont, IsAtText, IsSilent, TextTellsDefects, TextTellsDefectsOf, reader_in, refusal_font_fault, told}
 use Rattle.tt_render_settings.specs.Products.{product_of}
 use Rattle.tt_render_texts.specs.Answers.{TextAnswer}
@@ -34,7 +34,6 @@ use Rattle.tt_strike.specs.Refusals.{Refused, as_job}
 use Rattle.tt_strike.specs.Refusals as drawing
 use Rattle.tt_strike.specs.Strikes.{Strike}
 use Rattle.tt_face.specs.Faces.{Face}
-use Rattle.tt_face.specs.Files.{IsFaceDefectBy, face_with}
 
 -- the answer of a text does not depend on the cache's limit
 pub most_aside : (a : Setting) (s : Strike) (most : ℕ) (text : List ℕ)
@@ -174,7 +173,7 @@ strike_tells V IsOne draw.Memory none = tt
 
 -- a defect of a text by a font's tables is one by the font's file
 pub text_tells : (V : Type 0) (glyphs : GlyphsOf) (a : Setting) (text file : List ℕ) (face : Face) (why : Refusal)
-    → face_with file a.opening ≡ Ok face
+    → face_asked a file ≡ Ok face
     → IfSome (refusal_font_fault why) (IsLineDefect face (job_by a text) (glyphs face.cmap text))
     → IsOfText {V = V} (Err why)
     → TextTellsDefects {V = V} (IsTextDefect glyphs a text file) (Err (before_lines why))
@@ -192,8 +191,8 @@ text_tells V glyphs a text file face reason.Many there stands serves = tt
 text_tells V glyphs a text file face reason.Memory there stands serves = tt
 
 -- so the file has no defect of a text where the tables have none
-pub none_in_file : (glyphs : GlyphsOf) (a : Setting) (text file : List ℕ) (face : Face) → face_with file a.opening ≡ Ok face
-    → HasNo (IsFaceDefectBy file a.opening.reading) → HasNo (IsLineDefect face (job_by a text) (glyphs face.cmap text))
+pub none_in_file : (glyphs : GlyphsOf) (a : Setting) (text file : List ℕ) (face : Face) → face_asked a file ≡ Ok face
+    → HasNo (IsOpeningDefect a file) → HasNo (IsLineDefect face (job_by a text) (glyphs face.cmap text))
     → HasNo (IsTextDefect glyphs a text file)
 none_in_file glyphs a text file face there none line = λ fault defect. elim defect [
   | inl tables ↦ none fault tables

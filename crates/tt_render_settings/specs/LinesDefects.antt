@@ -2,15 +2,13 @@
 use Rattle.std.specs.Prelude.{◌≡◌, refl, ℕ, ◌-◌, List, [], ◌∷◌, get_or, codes, Option, Some, None, IfSome, Result, Ok, Err, ⊤, ◌⊎◌}
 use Rattle.tt_cmap.specs.Maps.{CharacterMap}
 use Rattle.tt_core.specs.Faults.{Fault}
-use Rattle.tt_face.specs.Files.{IsFaceDefectBy}
 use Rattle.tt_render_settings.specs.declared.setting.Setting.{Setting}
 use Rattle.tt_render_texts.specs.declared.refusal.Refusal.{Refusal}
 use Rattle.tt_render_texts.specs.declared.refusal.Refusal.TheVariants as reason
 use Rattle.tt_render_texts.specs.declared.refusal.TextsFault.{TextsFault}
 use Rattle.tt_render_texts.specs.Lines.{lines_of}
-use Rattle.tt_render_settings.specs.Settings.{job_by}
+use Rattle.tt_render_settings.specs.Settings.{ByFaceAsked, IsOpeningDefect}
 use Rattle.tt_strike.specs.Defects.{IsLineDefect}
-use Rattle.tt_strike.specs.Job.{ByFace}
 use Rattle.tt_strike.specs.Strikes.{Strike, job_of}
 
 -- the glyphs of a text: of one line, or of the lines of a label
@@ -28,11 +26,11 @@ IsDefectBy glyphs a s line f = IsLineDefect s.face (job_of s line a.margin) (gly
 -- a defect of the font that a line is drawn from, by the font's file
 abbrev pub IsDefectIn : GlyphsOf → Setting → List ℕ → List ℕ → Fault → Type 0
 IsDefectIn glyphs a file line f =
-    ByFace (λ face j. IsLineDefect face j (glyphs face.cmap line) f) a.opening (job_by a line) file
+    ByFaceAsked (λ face j. IsLineDefect face j (glyphs face.cmap line) f) a line file
 
--- a defect of the tables that every text needs, or of the data that this text is drawn from
+-- a defect of the tables that every text needs, of the instance, or of the data that this text is drawn from
 abbrev pub IsTextDefect : GlyphsOf → Setting → List ℕ → List ℕ → Fault → Type 0
-IsTextDefect glyphs a text file f = IsFaceDefectBy file a.opening.reading f ⊎ IsDefectIn glyphs a file text f
+IsTextDefect glyphs a text file f = IsOpeningDefect a file f ⊎ IsDefectIn glyphs a file text f
 
 -- the first line of a text has a defect
 abbrev pub BeginsDefective : (List ℕ → Fault → Type 0) → Fault → List ℕ → Type 0
@@ -49,12 +47,12 @@ abbrev pub LinesTell : {V : Type 0} → (List ℕ → Fault → Type 0) → Opti
 LinesTell IsOne text (Err fault) = LineTells IsOne text fault.refusal fault.line
 LinesTell IsOne text (Ok v) = ⊤
 
--- a font's fault in an error is a defect of the font: of the tables that every text needs, or, where the text is known,
--- of the data that the numbered line is drawn from
+-- a font's fault in an error is a defect of the font: of the tables that every text needs, of the instance, or, where
+-- the text is known, of the data that the numbered line is drawn from
 abbrev pub LineTellsDefect : GlyphsOf → Setting → Option (List ℕ) → Refusal → Option ℕ → List ℕ → Type 0
 LineTellsDefect glyphs a text (reason.Font f) (Some number) file =
     IfSome text (λ all. IsDefectIn glyphs a file (line_numbered all number) f)
-LineTellsDefect glyphs a text (reason.Font f) None file = IsFaceDefectBy file a.opening.reading f
+LineTellsDefect glyphs a text (reason.Font f) None file = IsOpeningDefect a file f
 LineTellsDefect glyphs a text why line file = ⊤
 
 abbrev pub LinesTellDefects : {V : Type 0} → GlyphsOf → Setting → Option (List ℕ) → Result V TextsFault → List ℕ → Type 0

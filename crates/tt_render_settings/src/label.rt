@@ -12,14 +12,14 @@ pub struct Label<'a> {
     /// The picture is that of all lines, enlarged so that no ink is cut, but for that at the sides of a given width: the fields `grow` and `product` are not used.
     /// In a box `ppem` is the greatest size to try.
     /// `most` is the limit of glyphs that are cached from label to label.
-    pub setting: Setting,
+    pub setting: Setting<'a>,
     /// The side at which the lines begin or end.
     pub align: Align,
     /// The space that each picture has to have.
     pub space: Space,
     /// The path of the font, as it is reported.
     pub path: &'a str,
-    /// Whether a face was asked for.
+    /// Whether a face was requested.
     pub face_given: bool,
     pub format: PictureFormat,
 }

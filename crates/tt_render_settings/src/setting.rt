@@ -2,11 +2,12 @@
 
 ghost use Rattle.std.specs.Prelude.{◌≡◌};
 ghost use Rattle.tt_core.specs.Outcomes.{Gives};
-ghost use Rattle.tt_render_settings.specs.Settings.{job_by, plain_setting, setting_tested};
+ghost use Rattle.tt_render_settings.specs.Settings.{axes_in, job_by, plain_setting, setting_tested};
 ghost use Rattle.tt_strike.specs.Job.{job_view};
 
+use tt_axes::AxisValue;
 use tt_core::JobFault;
-use tt_face::Opening;
+use tt_face::{AskedInstance, Opening};
 use tt_fit::Fit;
 use tt_strike::{Job, test_job};
 
@@ -32,7 +33,7 @@ pub enum Product {
 
 /// How texts are drawn.
 #[derive(Clone, Copy)]
-pub struct Setting {
+pub struct Setting<'i> {
     /// Pixels per em, 1 to 300.
     pub ppem: u32,
     /// Pixels round each line, 0 to 64.
@@ -48,11 +49,14 @@ pub struct Setting {
     pub most: usize,
     /// Whether the lines behind a refused line are drawn.
     pub keep_going: bool,
+    /// The instance of a variable font, if one is requested.
+    pub instance: Option<AskedInstance<'i>>,
 }
 
-impl Setting {
-    /// The setting by which `run` draws: glyph 0 in place of a missing one, the picture as it is, no cached glyphs.
-    pub fn plain(ppem: u32, margin: u32, fit: Fit, opening: Opening) -> Setting
+impl<'i> Setting<'i> {
+    /// The setting by which `run` draws: glyph 0 in place of a missing one, the picture as it is, no cached glyphs, and
+    /// no instance.
+    pub fn plain(ppem: u32, margin: u32, fit: Fit, opening: Opening) -> Setting<'i>
         ensures { result ≡ plain_setting ppem margin fit opening }
     {
         Setting {
@@ -65,6 +69,17 @@ impl Setting {
             product: Product::Picture,
             most: 0,
             keep_going: false,
+            instance: None,
+        }
+    }
+
+    /// The values that the setting gives to axes, none without an instance.
+    pub fn axes(&self) -> &'i [AxisValue]
+        ensures { result.now ≡ axes_in self.now }
+    {
+        match self.instance {
+            Some(asked) => asked.axes,
+            None => &[],
         }
     }
 

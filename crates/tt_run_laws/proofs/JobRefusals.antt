@@ -1,5 +1,5 @@
 -- Which refusals of a job need the font.
-use Rattle.std.proofs.Common.{◌≡◌, ℕ, ◌&&◌, ◌||◌, nat_lt, if◌then◌else◌, Bool, true, false, List, length, map, Result, Ok, Err, inl, inr, ap, refl}
+use Rattle.std.proofs.Common.{◌≡◌, ℕ, ◌&&◌, ◌||◌, nat_lt, if◌then◌else◌, Bool, true, false, List, length, map, Option, Result, Ok, Err, inl, inr, ap, refl}
 use Rattle.tt_cmap.specs.Maps.{CharacterMap}
 use Rattle.tt_face.specs.declared.rules.Opening.{Opening}
 use Rattle.tt_core.specs.declared.fault.JobFault.{JobFault}
@@ -19,7 +19,7 @@ use Rattle.tt_strike.specs.Job.{Job, margin_tested, size_tested, tested, text_te
 use Rattle.tt_strike.specs.Picture.{drawn, edges_tested, line_shapes, outlines_in, outlines_tested, pictured, pictured_by, placed_by_steps, points_tested, setting_in, shapes_in, steps_in, text_placed}
 use Rattle.tt_strike.specs.Refusals.{Refused, as_font, as_job, job, large, needs_font}
 use Rattle.tt_face.specs.Faces.{Face}
-use Rattle.tt_face.specs.Files.{face_with}
+use Rattle.tt_face.specs.Instance.{Asked, face_at_instance}
 use Rattle.tt_strike.specs.Work.{chord_limit, chords_in, edges_limited, is_bounded, lays_after_glyphs, points_in, work_tested}
 use Rattle.tt_render_streams.specs.File.{as_file}
 use Rattle.tt_render_run.specs.Run.{run_outcome}
@@ -172,14 +172,14 @@ font_late true made j refused = absurd cc
 font_late false made j refused = refused
 
 -- a job that passed its tests is refused by the font
-pub run_late : (r : Opening) (a : Job) (file : List ℕ) (j : JobFault) → tested a ≡ Ok tt
-    → run_outcome r a file ≡ Err (job j) → needs_font j ≡ true
+pub run_late : (r : Opening) (i : Option Asked) (a : Job) (file : List ℕ) (j : JobFault) → tested a ≡ Ok tt
+    → run_outcome r i a file ≡ Err (job j) → needs_font j ≡ true
 unfolding run_outcome pictured
-run_late r a file j good refused =
+run_late r i a file j good refused =
     let behind = rw good at refused in
-    let image = as_font (face_with file r) >>= λ face. pictured_by face a in
+    let image = as_font (face_at_instance file r i) >>= λ face. pictured_by face a in
     let made = font_late (nat_lt font_limit (length file)) (as_file image) j behind in
-    elim (was-err (as_font (face_with file r)) _ (job j) (no_image image (job j) made)) [
-      | inl first ↦ absurd (no_font (face_with file r) j first)
+    elim (was-err (as_font (face_at_instance file r i)) _ (job j) (no_image image (job j) made)) [
+      | inl first ↦ absurd (no_font (face_at_instance file r i) j first)
       | inr later ↦ pictured_late later.value a j later.rest
     ]

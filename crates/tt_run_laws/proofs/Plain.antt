@@ -17,7 +17,6 @@ use Rattle.tt_strike.specs.Refusals.{Refused, as_font, as_job, font, job, large}
 use Rattle.tt_strike.specs.Report.{line_report, report_by, report_of}
 use Rattle.tt_strike.specs.Strikes.{Strike, job_of}
 use Rattle.tt_face.specs.Faces.{Face}
-use Rattle.tt_face.specs.Files.{face_with}
 use Rattle.tt_strike.specs.Work.{line_fitter}
 use Rattle.tt_render_streams.specs.declared.fault.RunFault.TheVariants as run
 use Rattle.tt_render_streams.specs.File.{as_file}
@@ -36,7 +35,7 @@ use Rattle.tt_render_settings.specs.declared.setting.Missing.TheVariants as how
 use Rattle.tt_render_settings.specs.declared.setting.Setting.{Setting}
 use Rattle.tt_render_texts.specs.Printing.{Errors}
 use Rattle.tt_run_laws.specs.RunLaws.{GivesAsRun, PlainCallsAreRuns, PlainReportsAreRuns, PlainTextsAreRuns, bytes_of}
-use Rattle.tt_render_settings.specs.Settings.{IsPlain, job_by, strike_by, strike_of}
+use Rattle.tt_render_settings.specs.Settings.{IsPlain, asked_in, face_asked, job_by, strike_by, strike_of}
 use Rattle.tt_render_texts.specs.Answers.{TextAnswer}
 use Rattle.tt_render_settings.specs.Texts.{TextRefusal, answer_of, as_text, misfit, missing, missing_tested, not_utf8, refused, text_answer}
 use Rattle.tt_render_settings.specs.Lines.{stream}
@@ -67,11 +66,11 @@ kept_as_run (Err why) lacking cs is = refl
 
 -- the answer by an opened font
 of_strike : (a : Setting) (text file : List ℕ) (s : Strike) → IsPlain a → strike_of a file ≡ Ok s
-    → bytes_of (text_answer a s text) ≡ as_text (run_outcome a.opening (job_by a text) file)
+    → bytes_of (text_answer a s text) ≡ as_text (run_outcome a.opening (asked_in a) (job_by a text) file)
 of_strike a text file s plain opened =
     let none = none_refused s.face.cmap a.missing text plain.drawn in
     texts_are_runs a file text s plain.as_it_is opened
-    ∙ kept_as_run (run_outcome a.opening (job_by a text) file) (missing_tested s.face.cmap a.missing text) none.0 none.1
+    ∙ kept_as_run (run_outcome a.opening (asked_in a) (job_by a text) file) (missing_tested s.face.cmap a.missing text) none.0 none.1
 
 -- a font that is refused is refused alike
 alike : (big : Bool) (r : Result Face Refused) (f : Face → Strike) (g : Face → Result Image Refused) (why : Refused)
@@ -82,26 +81,26 @@ alike false (Ok face) f g why was = absurd cc
 alike false (Err e) f g why was = let same : e ≡ why = cc in ap Err same
 
 of_no_strike : (a : Setting) (text file : List ℕ) (why : Refused) → tested (job_by a text) ≡ Ok tt
-    → strike_of a file ≡ Err why → run_outcome a.opening (job_by a text) file ≡ Err why
+    → strike_of a file ≡ Err why → run_outcome a.opening (asked_in a) (job_by a text) file ≡ Err why
 unfolding strike_of run_outcome pictured
 of_no_strike a text file why good stops =
     let j = job_by a text in
-    ap (λ (r : Result (Unit {0}) JobFault). as_job r >>= λ u. of_font (file_pictured a.opening j) file) good
-    ∙ alike (nat_lt font_limit (length file)) (as_font (face_with file a.opening)) (strike_by a) (λ face. pictured_by face j) why stops
+    ap (λ (r : Result (Unit {0}) JobFault). as_job r >>= λ u. of_font (file_pictured a.opening (asked_in a) j) file) good
+    ∙ alike (nat_lt font_limit (length file)) (as_font (face_asked a file)) (strike_by a) (λ face. pictured_by face j) why stops
 
 by_strike : (a : Setting) (text file : List ℕ) (o : Result Strike Refused) → IsPlain a
     → tested (job_by a text) ≡ Ok tt → strike_of a file ≡ o
-    → bytes_of (as_text o >>= λ s. text_answer a s text) ≡ as_text (run_outcome a.opening (job_by a text) file)
+    → bytes_of (as_text o >>= λ s. text_answer a s text) ≡ as_text (run_outcome a.opening (asked_in a) (job_by a text) file)
 by_strike a text file (Ok s) plain good opened = of_strike a text file s plain opened
 by_strike a text file (Err why) plain good opened =
     sym (ap (λ (r : Result (List ℕ) Refused). as_text r) (of_no_strike a text file why good opened))
 
 by_test : (a : Setting) (text file : List ℕ) (r : Result (Unit {0}) JobFault) → IsPlain a → tested (job_by a text) ≡ r
     → bytes_of (as_text (as_job r) >>= λ u. as_text (strike_of a file) >>= λ s. text_answer a s text)
-    ≡ as_text (run_outcome a.opening (job_by a text) file)
+    ≡ as_text (run_outcome a.opening (asked_in a) (job_by a text) file)
 by_test a text file (Ok u) plain is = by_strike a text file (strike_of a file) plain is refl
 by_test a text file (Err j) plain is =
-    sym (ap (λ (r : Result (List ℕ) Refused). as_text r) (run_refused a.opening (job_by a text) j is file))
+    sym (ap (λ (r : Result (List ℕ) Refused). as_text r) (run_refused a.opening (asked_in a) (job_by a text) j is file))
 
 pub plain_texts_are_runs : PlainTextsAreRuns
 plain_texts_are_runs a text file plain = by_test a text file (tested (job_by a text)) plain refl
@@ -125,12 +124,12 @@ unfolding text_answer
 parts_of a s text t is = with_parts _ _ _ _ t is
 
 report_of_file : (a : Setting) (text file : List ℕ) (s : Strike) → strike_of a file ≡ Ok s
-    → report_of a.opening (job_by a text) file ≡ report_by s.face (job_of s text a.margin)
+    → report_of a.opening (asked_in a) (job_by a text) file ≡ report_by s.face (job_of s text a.margin)
 unfolding strike_of report_of
 report_of_file a text file s opened =
     let fits = passed-on (nat_lt font_limit (length file)) large
-    (as_font (face_with file a.opening) >>= λ face. Ok (strike_by a face)) s opened in
-    let by_face = came-through (as_font (face_with file a.opening)) _ s fits.1 in
+    (as_font (face_asked a file) >>= λ face. Ok (strike_by a face)) s opened in
+    let by_face = came-through (as_font (face_asked a file)) _ s fits.1 in
     let same = ok_same (strike_by a by_face.value) s by_face.rest in
     ap (λ (r : Result Face Refused). r >>= λ face. report_by face (job_by a text)) by_face.first
     ∙ ap (λ (t : Strike). report_by t.face (job_of t text a.margin)) same
@@ -162,9 +161,9 @@ plain_reports_are_runs a text file t plain drawn =
 
 -- the answer of `run` by that of the text
 ran_to : (a : Setting) (text file : List ℕ) (s : Strike) (t : TextAnswer) → IsPlain a → strike_of a file ≡ Ok s
-    → text_answer a s text ≡ Ok t → run_outcome a.opening (job_by a text) file ≡ Ok t.bytes
+    → text_answer a s text ≡ Ok t → run_outcome a.opening (asked_in a) (job_by a text) file ≡ Ok t.bytes
 ran_to a text file s t plain opened is =
-    text_alone (run_outcome a.opening (job_by a text) file) t.bytes (sym (of_strike a text file s plain opened) ∙ ap bytes_of is)
+    text_alone (run_outcome a.opening (asked_in a) (job_by a text) file) t.bytes (sym (of_strike a text file s plain opened) ∙ ap bytes_of is)
 
 refused_alone : (r : Result (List ℕ) Refused) (why : Refused)
     → as_text r ≡ Err (refused why) → r ≡ Err why
@@ -172,7 +171,7 @@ refused_alone (Ok x) why is = absurd cc
 refused_alone (Err e) why is = let same : e ≡ why = cc in ap Err same
 
 ran_into : (a : Setting) (text file : List ℕ) (s : Strike) (why : TextRefusal) → IsPlain a → strike_of a file ≡ Ok s
-    → text_answer a s text ≡ Err why → as_text (run_outcome a.opening (job_by a text) file) ≡ Err why
+    → text_answer a s text ≡ Err why → as_text (run_outcome a.opening (asked_in a) (job_by a text) file) ≡ Err why
 ran_into a text file s why plain opened is = sym (of_strike a text file s plain opened) ∙ ap bytes_of is
 
 -- `run` refuses a text by its reason alone
@@ -186,26 +185,26 @@ told_once why r e is tells = cc
 
 -- a file that is too large
 run_of_large : (a : Setting) (text file : List ℕ) → tested (job_by a text) ≡ Ok tt → font_limit < length file
-    → run_outcome a.opening (job_by a text) file ≡ Err large
+    → run_outcome a.opening (asked_in a) (job_by a text) file ≡ Err large
 unfolding run_outcome
 run_of_large a text file good big =
     let is_big : nat_lt font_limit (length file) ≡ true = grind (arith, nat_tests) in
-    ap (λ (r : Result (Unit {0}) JobFault). as_job r >>= λ u. of_font (file_pictured a.opening (job_by a text)) file) good
-    ∙ ap (λ (b : Bool). if b then Err large else file_pictured a.opening (job_by a text) file) is_big
+    ap (λ (r : Result (Unit {0}) JobFault). as_job r >>= λ u. of_font (file_pictured a.opening (asked_in a) (job_by a text)) file) good
+    ∙ ap (λ (b : Bool). if b then Err large else file_pictured a.opening (asked_in a) (job_by a text) file) is_big
 
 -- a call that stopped before the text was drawn
 before_text : (a : Setting) (text : List ℕ) (why : Refusal) (line : Option ℕ) (t : Traffic) (e : Errors)
     → StopsFor (tested (job_by a text)) (strike_of a) why line (reader_in t) → IsSilent t e
-    → GivesAsRun {V = Unit {0}} (Err (record { line = line; refusal = why })) t (run_wanted a.opening (job_by a text))
+    → GivesAsRun {V = Unit {0}} (Err (record { line = line; refusal = why })) t (run_wanted a.opening (asked_in a) (job_by a text))
 before_text a text (reason.Job j) None t e (bad, unread) silent =
-    (run.Job j, refl, rw (tested_early (job_by a text) j bad) ((bad, run_refused a.opening (job_by a text) j bad), unread, silent.0))
+    (run.Job j, refl, rw (tested_early (job_by a text) j bad) ((bad, run_refused a.opening (asked_in a) (job_by a text) j bad), unread, silent.0))
 before_text a text reason.FontRead None t e (good, fails) silent = (run.Read, refl, (good, fails, silent.0))
 before_text a text reason.FontLarge None t e (good, big, begun) silent =
     let refuses = if_some_more t.left_before (λ file. font_limit < length file)
-    (λ file. run_outcome a.opening (job_by a text) file ≡ Err large) (λ file is. run_of_large a text file good is) big in
+    (λ file. run_outcome a.opening (asked_in a) (job_by a text) file ≡ Err large) (λ file is. run_of_large a text file good is) big in
     (run.FontLarge, refl, (good, refuses, begun, silent.0))
 before_text a text (reason.Font f) None t e (good, file, read, bad) silent =
-    let refuses = known_of t.left_before t.left_after file (λ all. run_outcome a.opening (job_by a text) all ≡ Err (font f))
+    let refuses = known_of t.left_before t.left_after file (λ all. run_outcome a.opening (asked_in a) (job_by a text) all ≡ Err (font f))
     read.0 read.1 (of_no_strike a text file (font f) good bad) in
     (run.Font f, refl, (good, refuses, (read.1, read.2), silent.0))
 before_text a text reason.Memory None t e (good, begun) silent = (run.Memory, refl, (good, begun, silent.0))
@@ -238,40 +237,40 @@ record IsOpened (a : Setting) (text file : List ℕ) (s : Strike) (t : Traffic) 
 
 with_run : (a : Setting) (text file : List ℕ) (s : Strike) (t : Traffic) (answer : TextAnswer) (Q : List ℕ → Type 0)
     → IsOpened a text file s t → text_answer a s text ≡ Ok answer → Q answer.bytes
-    → IfSome t.left_before (WithBytes (run_outcome a.opening (job_by a text)) Q)
+    → IfSome t.left_before (WithBytes (run_outcome a.opening (asked_in a) (job_by a text)) Q)
 with_run a text file s t answer Q by is holds =
-    known_of t.left_before t.left_after file (WithBytes (run_outcome a.opening (job_by a text)) Q) by.read.0 by.read.1
+    known_of t.left_before t.left_after file (WithBytes (run_outcome a.opening (asked_in a) (job_by a text)) Q) by.read.0 by.read.1
     (answer.bytes, ran_to a text file s answer by.plain by.opened is, holds)
 
 refused_run : (a : Setting) (text file : List ℕ) (s : Strike) (t : Traffic) (why : Refused)
     → IsOpened a text file s t → text_answer a s text ≡ Err (refused why)
-    → run_outcome a.opening (job_by a text) file ≡ Err why
+    → run_outcome a.opening (asked_in a) (job_by a text) file ≡ Err why
 refused_run a text file s t why by is =
-    refused_alone (run_outcome a.opening (job_by a text) file) why (ran_into a text file s (refused why) by.plain by.opened is)
+    refused_alone (run_outcome a.opening (asked_in a) (job_by a text) file) why (ran_into a text file s (refused why) by.plain by.opened is)
 
 never : (a : Setting) (text file : List ℕ) (s : Strike) (t : Traffic) (why : TextRefusal) → IsOpened a text file s t
     → ((e : Refused) → why ≢ refused e) → text_answer a s text ≡ Err why → ⊥
 never a text file s t why by other is =
-    not_told (run_outcome a.opening (job_by a text) file) why other (ran_into a text file s why by.plain by.opened is)
+    not_told (run_outcome a.opening (asked_in a) (job_by a text) file) why other (ran_into a text file s why by.plain by.opened is)
 
 at_text : (a : Setting) (text file : List ℕ) (s : Strike) (why : Refusal) (line : Option ℕ) (t : Traffic) (e : Errors)
     → IsOpened a text file s t → TextFails stream (text_answer a s text) why line t e
-    → GivesAsRun {V = Unit {0}} (Err (record { line = line; refusal = why })) t (run_wanted a.opening (job_by a text))
+    → GivesAsRun {V = Unit {0}} (Err (record { line = line; refusal = why })) t (run_wanted a.opening (asked_in a) (job_by a text))
 at_text a text file s reason.Create None t e by (creates, answer, is, kept, fails, silent) = absurd cc
 at_text a text file s (reason.Write sent) None t e by (answer, is, few, first, fails, silent) =
     (run.Write sent, refl, (by.good, with_run a text file s t answer (SendsFirst sent t) by is (few, first), (by.read.1, by.read.2), fails))
 at_text a text file s (reason.Font f) None t e by (r, tells, is, silent) =
     let same = told_once (reason.Font f) r (refused (font f)) refl tells in
     let ran = refused_run a text file s t (font f) by (rw (← same) is) in
-    let refuses = known_of t.left_before t.left_after file (λ all. run_outcome a.opening (job_by a text) all ≡ Err (font f))
+    let refuses = known_of t.left_before t.left_after file (λ all. run_outcome a.opening (asked_in a) (job_by a text) all ≡ Err (font f))
     by.read.0 by.read.1 ran in
     (run.Font f, refl, (by.good, refuses, (by.read.1, by.read.2), silent.0))
 at_text a text file s (reason.Job j) None t e by (r, tells, is, silent) =
     let same = told_once (reason.Job j) r (refused (job j)) refl tells in
     let ran = refused_run a text file s t (job j) by (rw (← same) is) in
-    let refuses = known_of t.left_before t.left_after file (λ all. run_outcome a.opening (job_by a text) all ≡ Err (job j))
+    let refuses = known_of t.left_before t.left_after file (λ all. run_outcome a.opening (asked_in a) (job_by a text) all ≡ Err (job j))
     by.read.0 by.read.1 ran in
-    (run.Job j, refl, rw (run_late a.opening (job_by a text) file j by.good ran) (by.good, refuses, (by.read.1, by.read.2), silent.0))
+    (run.Job j, refl, rw (run_late a.opening (asked_in a) (job_by a text) file j by.good ran) (by.good, refuses, (by.read.1, by.read.2), silent.0))
 at_text a text file s reason.NotUtf8 None t e by (r, tells, is, silent) =
     let same = told_once reason.NotUtf8 r not_utf8 refl tells in
     absurd (never a text file s t not_utf8 by (λ e. λ same. cc) (rw (← same) is))
@@ -301,12 +300,12 @@ at_text a text file s reason.Memory (Some n) t e by fails = absurd fails
 
 stopped : (a : Setting) (text : List ℕ) (r : Result (Unit {0}) TextsFault) (t : Traffic) (e : Errors)
     → StopsAtFont (tested (job_by a text)) (strike_of a) r (reader_in t) → IsSilent t e
-    → GivesAsRun r t (run_wanted a.opening (job_by a text))
+    → GivesAsRun r t (run_wanted a.opening (asked_in a) (job_by a text))
 stopped a text (Ok v) t e stops silent = absurd stops
 stopped a text (Err fault) t e stops silent = before_text a text fault.refusal fault.line t e stops silent
 
 drew : (a : Setting) (text file : List ℕ) (s : Strike) (r : Result (Unit {0}) TextsFault) (t : Traffic) (e : Errors)
-    → IsOpened a text file s t → TextGives stream (text_answer a s text) r t e → GivesAsRun r t (run_wanted a.opening (job_by a text))
+    → IsOpened a text file s t → TextGives stream (text_answer a s text) r t e → GivesAsRun r t (run_wanted a.opening (asked_in a) (job_by a text))
 drew a text file s (Ok v) t e by (answer, is, sent, serves, printed) =
     (by.good, with_run a text file s t answer (SendsAll t) by is sent, (by.read.1, by.read.2), serves)
 drew a text file s (Err fault) t e by fails = at_text a text file s fault.refusal fault.line t e by fails

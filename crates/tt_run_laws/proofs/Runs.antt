@@ -1,5 +1,5 @@
 -- The picture of a text, and of a line, is what `run` gives for it.
-use Rattle.std.proofs.Common.{◌≡◌, ◌∙◌, refl, ap, sym, ℕ, nat_lt, Bool, true, false, if◌then◌else◌, List, length, map, Result, Ok, Err, arith}
+use Rattle.std.proofs.Common.{◌≡◌, ◌∙◌, refl, ap, sym, ℕ, nat_lt, Bool, true, false, if◌then◌else◌, List, length, map, Option, Result, Ok, Err, arith}
 use Rattle.std.proofs.lemmas.Bool.Decides.{nat_tests}
 use Rattle.std.specs.Str.{is_utf8}
 use Rattle.tt_face.specs.declared.rules.Opening.{Opening}
@@ -22,7 +22,7 @@ use Rattle.tt_picture.specs.Unfitted.{unfitted_among}
 use Rattle.tt_strike.specs.Report.{line_report, report_by}
 use Rattle.tt_strike.specs.Strikes.{Strike, job_of}
 use Rattle.tt_face.specs.Faces.{Face}
-use Rattle.tt_face.specs.Files.{face_with}
+use Rattle.tt_face.specs.Instance.{Asked, face_at_instance}
 use Rattle.tt_render_settings.specs.declared.setting.Setting.{Setting}
 use Rattle.tt_render_settings.specs.Lines.{line_drawn}
 use Rattle.tt_render_texts.specs.Lines.{line_limit}
@@ -32,7 +32,7 @@ use Rattle.tt_render_streams.specs.File.{as_file}
 use Rattle.tt_render_run.specs.File.{file_pictured}
 use Rattle.tt_render_run.proofs.Files.{file_made}
 use Rattle.tt_run_laws.specs.RunLaws.{LinesAreRuns, LinesAreTexts, TextsAreRuns, bytes_of}
-use Rattle.tt_render_settings.specs.Settings.{DrawsAsItIs, job_by, strike_by, strike_of}
+use Rattle.tt_render_settings.specs.Settings.{DrawsAsItIs, asked_in, face_asked, job_by, strike_by, strike_of}
 use Rattle.tt_render_settings.specs.Products.{picture_by, product_of}
 use Rattle.tt_render_texts.specs.Answers.{TextAnswer}
 use Rattle.tt_render_settings.specs.Texts.{TextRefusal, answer_of, as_text, missing_tested, not_utf8, refused, text_answer}
@@ -101,10 +101,10 @@ bytes_by_parts (Err why) report lacking taken reported costed = refl
 pub ok_same : {X E : Type 0} (x y : X) → ◌≡◌ {A = Result X E} (Ok x) (Ok y) → x ≡ y
 ok_same x y is = cc
 
-by_file : (r : Opening) (j : Job) (file : List ℕ) (face : Face) → nat_lt font_limit (length file) ≡ false
-    → as_font (face_with file r) ≡ Ok face → as_file (pictured_by face j) ≡ of_font (file_pictured r j) file
+by_file : (r : Opening) (i : Option Asked) (j : Job) (file : List ℕ) (face : Face) → nat_lt font_limit (length file) ≡ false
+    → as_font (face_at_instance file r i) ≡ Ok face → as_file (pictured_by face j) ≡ of_font (file_pictured r i j) file
 unfolding pictured
-by_file r j file face small read = rw (small, read) refl
+by_file r i j file face small read = rw (small, read) refl
 
 file_after : (t : Result (Unit {0}) Refused) (r : Result Image Refused)
     → as_file (t >>= λ u. r) ≡ (t >>= λ u. as_file r)
@@ -113,16 +113,16 @@ file_after (Err why) r = refl
 
 -- a strike that is opened by a file draws the picture of `run` for that file
 is_run : (a : Setting) (file text : List ℕ) (s : Strike) → strike_of a file ≡ Ok s
-    → as_file (line_outcome s.face (job_of s text a.margin)) ≡ run_outcome a.opening (job_by a text) file
+    → as_file (line_outcome s.face (job_of s text a.margin)) ≡ run_outcome a.opening (asked_in a) (job_by a text) file
 unfolding strike_of line_outcome run_outcome
 is_run a file text s opened =
     let fits = passed-on (nat_lt font_limit (length file)) large
-    (as_font (face_with file a.opening) >>= λ face. Ok (strike_by a face)) s opened in
-    let by_face = came-through (as_font (face_with file a.opening)) _ s fits.1 in
+    (as_font (face_asked a file) >>= λ face. Ok (strike_by a face)) s opened in
+    let by_face = came-through (as_font (face_asked a file)) _ s fits.1 in
     let face = by_face.value in
     let j = job_by a text in
     let same = ok_same (strike_by a face) s by_face.rest in
-    let made = by_file a.opening j file face fits.0 by_face.first in
+    let made = by_file a.opening (asked_in a) j file face fits.0 by_face.first in
     ap (λ (t : Strike). as_file (line_outcome t.face (job_of t text a.margin))) (sym same)
     ∙ file_after (as_job (tested j)) (pictured_by face j)
     ∙ ap (λ (r : Result (List ℕ) Refused). as_job (tested j) >>= λ u. r) made
@@ -167,7 +167,7 @@ line_passes a line s t was =
 pub lines_are_runs : LinesAreRuns
 lines_are_runs a file line s t is opened was =
     let drawn : text_answer a s line ≡ Ok t = line_passes a line s t was in
-    was_run (run_outcome a.opening (job_by a line) file) (missing_tested s.face.cmap a.missing line) t.bytes
+    was_run (run_outcome a.opening (asked_in a) (job_by a line) file) (missing_tested s.face.cmap a.missing line) t.bytes
     (sym (texts_are_runs a file line s is opened) ∙ ap bytes_of drawn)
 
 pub lines_are_texts : LinesAreTexts

@@ -18,7 +18,7 @@ use Rattle.tt_render_streams.specs.declared.fault.RunFault.{RunFault}
 use Rattle.tt_render_run.specs.Outcome.{CallFails, CallGives, Wanted}
 use Rattle.tt_render_streams.specs.Traffic.{Traffic}
 use Rattle.tt_render_run.specs.Run.{run_outcome, run_wanted}
-use Rattle.tt_render_settings.specs.Settings.{DrawsAsItIs, IsPlain, job_by, strike_of}
+use Rattle.tt_render_settings.specs.Settings.{DrawsAsItIs, IsPlain, asked_in, job_by, strike_of}
 use Rattle.tt_render_texts.specs.Answers.{TextAnswer}
 use Rattle.tt_render_settings.specs.Texts.{TextRefusal, as_text, missing, missing_tested, refused, text_answer}
 use Rattle.tt_render_settings.specs.TextsOutcome.{FontTextGives}
@@ -31,7 +31,7 @@ bytes_of answer = answer >>= λ t. Ok t.bytes
 -- what `run` gives for a text and a font file; a missing character may refuse the text after that
 abbrev pub run_for : Setting → Strike → List ℕ → List ℕ → Result (List ℕ) TextRefusal
 run_for a s file text =
-    as_text (run_outcome a.opening (job_by a text) file) >>= λ bytes.
+    as_text (run_outcome a.opening (asked_in a) (job_by a text) file) >>= λ bytes.
     missing_tested s.face.cmap a.missing text >>= λ lacking.
     Ok bytes
 
@@ -43,7 +43,7 @@ TextsAreRuns = (a : Setting) (file text : List ℕ) (s : Strike) → DrawsAsItIs
 -- the picture of each line is what `run` gives for that line alone
 abbrev pub LinesAreRuns : Type 0
 LinesAreRuns = (a : Setting) (file line : List ℕ) (s : Strike) (t : TextAnswer) → DrawsAsItIs a
-    → strike_of a file ≡ Ok s → line_drawn a s line ≡ Ok t → run_outcome a.opening (job_by a line) file ≡ Ok t.bytes
+    → strike_of a file ≡ Ok s → line_drawn a s line ≡ Ok t → run_outcome a.opening (asked_in a) (job_by a line) file ≡ Ok t.bytes
 
 -- a line of at most 16,384 bytes of UTF-8 has the answer of a text, whatever the product
 abbrev pub LinesAreTexts : Type 0
@@ -60,12 +60,12 @@ drawn_text a text file =
 -- by a plain setting a text has the bytes of `run` for its job, or the same refusal
 abbrev pub PlainTextsAreRuns : Type 0
 PlainTextsAreRuns = (a : Setting) (text file : List ℕ) → IsPlain a
-    → bytes_of (drawn_text a text file) ≡ as_text (run_outcome a.opening (job_by a text) file)
+    → bytes_of (drawn_text a text file) ≡ as_text (run_outcome a.opening (asked_in a) (job_by a text) file)
 
 -- it has the report of `run` too, which lists no glyph twice, and with `Missing::Draw` no character is reported
 abbrev pub PlainReportsAreRuns : Type 0
 PlainReportsAreRuns = (a : Setting) (text file : List ℕ) (t : TextAnswer) → IsPlain a → drawn_text a text file ≡ Ok t
-    → (report_of a.opening (job_by a text) file ≡ Ok t.unfitted) × ListsOnce t.unfitted × (a.missing ≡ how.Draw → t.lacking ≡ [])
+    → (report_of a.opening (asked_in a) (job_by a text) file ≡ Ok t.unfitted) × ListsOnce t.unfitted × (a.missing ≡ how.Draw → t.lacking ≡ [])
 
 -- a call met the outcome of `run`, for these bytes; its fault is the one of `run`
 abbrev pub GivesAsRun : {V : Type 0} → Result V TextsFault → Traffic → Wanted → Type 0
@@ -75,7 +75,7 @@ GivesAsRun (Err fault) t w = (f : RunFault) × (fault ≡ before_lines (refusal_
 -- a call that met the outcome of `draw_text` by such a setting met that of `run` for its job
 abbrev pub PlainCallsAreRuns : Type 0
 PlainCallsAreRuns = (a : Setting) (text : List ℕ) (r : Result (Unit {0}) TextsFault) (t : Traffic) (e : Errors)
-    → IsPlain a → FontTextGives a text r t e → GivesAsRun r t (run_wanted a.opening (job_by a text))
+    → IsPlain a → FontTextGives a text r t e → GivesAsRun r t (run_wanted a.opening (asked_in a) (job_by a text))
 
 -- worked values: the bytes of a drawn text, and of a refused one
 drawn_bytes : bytes_of (Ok (record { bytes = codes "P4"; unfitted = []; lacking = codes "A"; cost = 12; label = None })) ≡ Ok (codes "P4")

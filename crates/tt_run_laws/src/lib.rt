@@ -31,6 +31,8 @@ pub fn fonts_are_whole()
     ensures run { WrittenFontsAreWhole }
     ensures map { MappedFontsAreWhole }
 {
+    tt_face::laws::instances_are_whole();
+    tt_advances::laws::found_advances_are_whole();
     tt_strike_laws::laws::fonts_are_whole();
 }
 
@@ -54,5 +56,8 @@ pub fn readings_agree()
     ensures fonts_map { FacesMapAsFonts }
 {
     tt_face::laws::readings_give_faces();
+    tt_face::laws::rules_keep_faces();
+    tt_face::laws::defaults_are_faces();
+    tt_advances::laws::tables_give_advances();
     tt_strike_laws::laws::faces_draw_alike();
 }

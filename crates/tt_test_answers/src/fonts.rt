@@ -1,13 +1,16 @@
 //! Does what the program does, without its command line, over readers and writers in memory, and as often as there are
 //! questions: for tests with fonts that are damaged and devices that fail. A line of standard input is a question, or
-//! states the font or the devices for the questions after it:
+//! states the font, its instance or the devices for the questions after it:
 //!
 //!     font HEX
 //!     file PATH
+//!     axes AXES
 //!     devices READ FAILS WRITE ROOM END
 //!     map TEXT LENGTH AT BYTE ..
 //!     draw TEXT SIZE MARGIN FIT LENGTH AT BYTE ..
 //!     lines TEXT LINES MISSING SIZE MARGIN FIT LENGTH AT BYTE ..
+//!
+//! AXES are values of axes as `--axis` has them, or `-`: questions are about the font's instance there.
 //!
 //! A question is about the first LENGTH bytes of the font, with other bytes at the places that are named. HEX and
 //! TEXT are in hexadecimal, or `-`. A call of the reader gives READ bytes at most, and the call number FAILS fails, if

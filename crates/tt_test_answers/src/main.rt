@@ -4,13 +4,15 @@
 //!     tt_test_answers outlines FONT SIZE FIT all
 //!     tt_test_answers outlines FONT SIZE FIT GLYPH ..
 //!     tt_test_answers outlines FONT SIZE FIT pixels GLYPH WIDTH HEIGHT MARGIN RISE
+//!     tt_test_answers outlines FONT SIZE FIT at AXES ..
 //!     tt_test_answers pixels
 //!     tt_test_answers dropouts
 //!     tt_test_answers machine
 //!     tt_test_answers fonts
 //!     tt_test_answers any
 //!
-//! FIT is `full`, `none`, `fallback` or `best`. The last five read questions from standard input: about edges and
+//! FIT is `full`, `none`, `fallback` or `best`. AXES are values as `--axis` has them, and the words of `outlines` follow.
+//! The last five read questions from standard input: about edges and
 //! pixels, about dropouts, about runs of the bytecode machine, and about damaged fonts and devices that fail. After
 //! `any` each line begins with one of the four words above it. The module of each word states the form of its lines.
 //! Where memory is refused for a glyph, a note on standard error names the glyph, and the glyph is requested once more.
@@ -59,7 +61,7 @@ fn answer_words(rt: &HostRuntime, what: &str, path: &str, words: &[String]) -> R
 struct Kept {
     /// The font program of the machine's questions.
     program: Program,
-    /// The font and the devices of questions about fonts.
+    /// The font, its instance and the devices of questions about fonts.
     asked: Asked,
 }
 

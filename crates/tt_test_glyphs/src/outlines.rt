@@ -8,20 +8,28 @@
 ghost use Rattle.std.specs.Prelude.{◌≡◌, ◌<◌, IfSome};
 ghost use Rattle.tt_scan_edges.specs.Winding.{FrameFits};
 
-use crate::tables::{note_glyph, programs_of, tables_of};
+use crate::tables::{face_at, note_glyph, programs_of, tables_of};
 use std::alloc::Global;
 use tt_arc::{ChordRule, chords};
+use tt_axes::read_axis_values;
 use tt_core::{COORDINATE_LIMIT, FontFault, SIZE_LIMIT};
-use tt_fit::{Fit, Fitter, Instance, Outline};
+use tt_face::Face;
+use tt_fit::{Fit, Fitter, Outline};
 use tt_scan::{Frame, Tape};
 use tt_test_machine::faults::put_fault;
 use tt_test_pixels::pictures::{frame_in, put_picture};
 use tt_test_words::Line;
 
-/// Puts the outlines that the words request. The first two words are the size and the way to fit.
+/// Puts the outlines that the words request. The first two words are the size and the way to fit. Behind `at` there are
+/// values of axes, and the outlines are those of the instance.
 pub fn put_table(alloc: Global, line: &mut Line, font: &[u8]) {
     let size = line.natural(1, SIZE_LIMIT);
     let fit = fit_in(line);
+    let word = line.word();
+    if word == "at" {
+        put_instance(alloc, line, font, size, fit);
+        return;
+    }
     let (Some((metrics, glyphs)), Some(programs)) = (tables_of(font), programs_of(font)) else {
         line.refuse("the font is refused");
         return;
@@ -29,16 +37,37 @@ pub fn put_table(alloc: Global, line: &mut Line, font: &[u8]) {
     if line.is_refused() {
         return;
     }
-    match Fitter::new(
-        alloc,
-        &metrics,
-        glyphs,
-        programs,
-        Instance::none(),
-        size,
-        fit,
-    ) {
-        Ok(fitter) => put_glyphs(alloc, line, &fitter, metrics.glyphs()),
+    match Fitter::new(alloc, &metrics, glyphs, programs, &None, size, fit) {
+        Ok(fitter) => put_glyphs(alloc, line, &fitter, metrics.glyphs(), word),
+        Err(_) => line.refuse("the font's programs are refused"),
+    }
+}
+
+/// Puts the outlines at the values of axes that the next word gives.
+fn put_instance(alloc: Global, line: &mut Line, font: &[u8], size: u32, fit: Fit) {
+    let Ok(Some(axes)) = read_axis_values(alloc, line.word().as_bytes()) else {
+        line.refuse("no such axes");
+        return;
+    };
+    let word = line.word();
+    match face_at(font, &axes) {
+        Some(face) => put_face(alloc, line, &face, size, fit, word),
+        None => line.refuse("the font is refused"),
+    }
+}
+
+/// Puts the outlines of a face. The word is the first about its glyphs.
+fn put_face(alloc: Global, line: &mut Line, face: &Face, size: u32, fit: Fit, word: &str) {
+    let (Ok(glyphs), Ok(programs)) = (face.glyf(), face.programs()) else {
+        line.refuse("the font is refused");
+        return;
+    };
+    if line.is_refused() {
+        return;
+    }
+    let metrics = face.metrics();
+    match Fitter::new(alloc, metrics, glyphs, programs, face.instance(), size, fit) {
+        Ok(fitter) => put_glyphs(alloc, line, &fitter, metrics.glyphs(), word),
         Err(_) => line.refuse("the font's programs are refused"),
     }
 }
@@ -58,11 +87,11 @@ fn fit_in(line: &mut Line) -> Fit {
     }
 }
 
-/// Puts the outlines or the picture of the words. The font has this number of glyphs.
-fn put_glyphs(alloc: Global, line: &mut Line, fitter: &Fitter, glyphs: u16)
+/// Puts the outlines or the picture of the words; this is the first. The font has this number of glyphs.
+fn put_glyphs(alloc: Global, line: &mut Line, fitter: &Fitter, glyphs: u16, word: &str)
     requires { fitter.now.tables.glyphs ≡ glyphs }
 {
-    match line.word() {
+    match word {
         "all" => {
             line.end();
             for g in 0..glyphs {

@@ -4,7 +4,9 @@ ghost use Rattle.std.specs.Prelude.{◌≡◌, ◌≤◌, length, IfSome};
 ghost use Rattle.tt_core.specs.Limits.{font_limit};
 ghost use Rattle.tt_metrics.specs.Metrics.{loca_format_of, glyphs_of};
 
-use tt_core::{Dir, FONT_LIMIT};
+use tt_axes::AxisValue;
+use tt_core::{Dir, FONT_LIMIT, Reading};
+use tt_face::{AskedInstance, Face, Opening};
 use tt_fit::Programs;
 use tt_glyf::Glyf;
 use tt_metrics::Metrics;
@@ -41,6 +43,15 @@ pub(crate) fn programs_of(font: &[u8]) -> Option<Programs<'_>>
         fpgm: dir.table(*b"fpgm").ok()?.unwrap_or(&[]),
         prep: dir.table(*b"prep").ok()?.unwrap_or(&[]),
     })
+}
+
+/// The first face of a font's file at the instance that has these values of axes.
+pub(crate) fn face_at<'a>(font: &'a [u8], axes: &[AxisValue]) -> Option<Face<'a>> {
+    if font.len() > FONT_LIMIT {
+        return None;
+    }
+    let asked = AskedInstance { named: None, axes };
+    Face::read_at(font, Opening::plain(Reading::Wide { face: 0 }), Some(asked)).ok()
 }
 
 /// Notes that memory was refused for a glyph.

@@ -1,22 +1,26 @@
-//! The font and the devices of questions, and the answers.
+//! The font, its instance and the devices of questions, and the answers.
 
 ghost use Rattle.std.specs.Prelude.{◌≤◌, ◌<◌, ◌^◌};
 
 use super::devices::{End, Given, Manner, Written};
 use std::alloc::Global;
 use std::str;
+use tt_axes::AxisValue;
 use tt_core::{Device, Reading};
-use tt_face::Opening;
-use tt_program_decisions::{GLYPHS_KEPT, OutDevice, Request, fit_named, missing_named, perform};
+use tt_face::{AskedInstance, Opening};
+use tt_program_decisions::{
+    GLYPHS_KEPT, OutDevice, Request, axes_asked, fit_named, missing_named, perform,
+};
 use tt_program_words::DRAW;
 use tt_render_settings::Setting;
 use tt_render_texts::fit_reading;
 use tt_test_words::Line;
 
-/// The font, and how it is read and the answer is taken.
+/// The font with the values of its axes, if there are some, and how it is read and the answer is taken.
 #[derive(Drop)]
 pub(crate) struct Asked {
     pub(crate) font: Vec<u8>,
+    axes: Option<Vec<AxisValue>>,
     manner: Manner,
 }
 
@@ -24,14 +28,27 @@ impl Asked {
     pub(crate) fn new(alloc: Global) -> Asked {
         Asked {
             font: Vec::new(alloc),
+            axes: None,
             manner: Manner::whole(),
         }
     }
 
-    /// Answers a question, or keeps a font or devices.
+    /// The instance of the questions, if values of axes are kept.
+    fn instance(&self) -> Option<AskedInstance<'_>> {
+        match &self.axes {
+            Some(axes) => Some(AskedInstance {
+                named: None,
+                axes: axes.as_slice(),
+            }),
+            None => None,
+        }
+    }
+
+    /// Answers a question, or keeps a font, values of axes or devices.
     pub(crate) fn answer(&mut self, alloc: Global, line: &mut Line, word: &str) {
         match word {
             "font" => self.font = line.bytes(alloc),
+            "axes" => self.axes = axes_in(alloc, line),
             "devices" => self.manner = manner_in(line),
             "map" | "draw" | "lines" => self.put_answer(alloc, line, word),
             _ => line.refuse("no such question"),
@@ -75,7 +92,7 @@ impl Asked {
         put_done(
             alloc,
             line,
-            &request,
+            &request.at(self.instance()),
             Given::new(font.as_slice(), self.manner),
             lines,
         );
@@ -110,6 +127,22 @@ fn map_of<'t>(text: &'t str) -> Request<'t> {
         font: "",
         text,
         reading: Reading::Strict,
+        instance: None,
+    }
+}
+
+/// The next word, values of axes. None for `-`.
+fn axes_in(alloc: Global, line: &mut Line) -> Option<Vec<AxisValue>> {
+    let word = line.word();
+    if word == "-" {
+        return None;
+    }
+    match axes_asked(alloc, Some(word)) {
+        Ok(Some(axes)) => Some(axes),
+        _ => {
+            line.refuse("no such axes");
+            None
+        }
     }
 }
 
@@ -165,7 +198,7 @@ fn manner_in(line: &mut Line) -> Manner {
 }
 
 /// The next three words, size, margin and way to fit.
-fn setting_in(line: &mut Line, missing: &str) -> Option<Setting> {
+fn setting_in<'i>(line: &mut Line, missing: &str) -> Option<Setting<'i>> {
     let size = line.natural(0, u32::MAX);
     let margin = line.natural(0, u32::MAX);
     let fit = fit_named(line.word())?;

@@ -2,7 +2,7 @@ use Rattle.std.proofs.Common.{inl, refl}
 use Rattle.std.proofs.lemmas.Result.{err_from_is_err_and}
 use Rattle.tt_render_settings.proofs.FontLines.{face_file, font_opened, font_refused}
 use Rattle.tt_render_settings.proofs.OneText.{none_in_file, text_stops, text_tells}
-use Rattle.tt_render_settings.specs.Settings.{strike_by, strike_of}
+use Rattle.tt_render_settings.specs.Settings.{asked_in, strike_by, strike_of}
 use Rattle.tt_bitmap_font.specs.Characters.{file_glyphs}
 use Rattle.tt_bitmap_font.specs.declared.answers.ReadyFile.{ReadyFile}
 use Rattle.tt_bitmap_font.specs.FontFiles.{bdf_outcome, setting_of}
@@ -10,7 +10,7 @@ use Rattle.tt_bitmap_font.proofs.writing.ready_file.Goals as goal
 
 pub answer_file-requires-clause-file : goal.answer_file-requires-clause-file
 answer_file-requires-clause-file c =
-    face_file c.args.file.now c.opening.result c.in_ok-face.face c.in_ok-face.ensures.exact
+    face_file c.args.file.now c.opening.result (asked_in (setting_of c.args.asked.now)) c.in_ok-face.face c.in_ok-face.ensures.exact
 
 pub returns-in_err-face-clause-outcome : goal.returns-in_err-face-clause-outcome
 returns-in_err-face-clause-outcome c =

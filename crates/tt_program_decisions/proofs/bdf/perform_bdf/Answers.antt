@@ -15,6 +15,7 @@ returns-in-Ok-Some-clause-outcome g c =
         text = c.args.asked.now.text;
         path = c.args.asked.now.font;
         face_given = c.is_some.result;
+        instance = c.args.asked.now.instance;
       },
       record {
         size = refl;
@@ -25,6 +26,7 @@ returns-in-Ok-Some-clause-outcome g c =
         text = refl;
         path = refl;
         given = c.is_some.ensures;
+        instance = refl;
       },
       record {
         written = c.write_bdf-written.result;

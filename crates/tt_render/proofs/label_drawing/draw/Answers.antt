@@ -4,7 +4,7 @@ use Rattle.tt_render.specs.Labels.{composed_glyphs}
 use Rattle.tt_render.specs.declared.label_answers.ReadyLabel.{ReadyLabel}
 use Rattle.tt_render.specs.Labels.{label_answer, label_notes}
 use Rattle.tt_render_settings.specs.LinesDefects.{IsTextDefect}
-use Rattle.tt_render_settings.specs.Settings.{job_by, strike_by, strike_of}
+use Rattle.tt_render_settings.specs.Settings.{asked_in, job_by, strike_by, strike_of}
 use Rattle.tt_render_settings.proofs.FontLines.{face_file, font_opened, font_refused}
 use Rattle.tt_render_settings.proofs.OneText.{none_in_file, strike_stops, strike_tells, text_stops, text_tells}
 use Rattle.tt_render.proofs.LabelLines.{most_aside}
@@ -71,5 +71,5 @@ returns-clause-defects c = λ sized.
 pub answer_label-requires : goal.answer_label-requires
 answer_label-requires c =
     let l = c.args.asked.now in
-    let file = face_file c.args.file.now l.setting.opening c.in_ok-face.face c.in_ok-face.ensures.exact in
+    let file = face_file c.args.file.now l.setting.opening (asked_in l.setting) c.in_ok-face.face c.in_ok-face.ensures.exact in
     record { notes = rw c.in_ok-strike.ensures.exact (c.requires.notes ∙ ap (λ bytes. label_notes l bytes) file) }

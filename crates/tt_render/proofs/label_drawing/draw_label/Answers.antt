@@ -144,7 +144,7 @@ returns-in-Err-read_font-clause-hint g c =
     let font = c.read_font.new.font in
     rw (c.unhinted-in-Err-read_font.ensures, c.refusal_of_run.ensures)
     (if_some_all (left c.args.font.now) _ (λ file. reading_hints c.in-Err-read_font.fault (left c.args.font.now) (left font)
-    (g.R.Source.has_failed font) file c.args.asked.now.setting.opening.reading c.in-Err-read_font.ensures))
+    (g.R.Source.has_failed font) file c.args.asked.now.setting c.in-Err-read_font.ensures))
 
 pub returns-in-Err-notes_of-clause-hint : goal.returns-in-Err-notes_of-clause-hint
 returns-in-Err-notes_of-clause-hint g c =
@@ -157,7 +157,7 @@ returns-in-Err-draw-clause-hint g c =
     known_of (left c.args.font.now) (left c.read_font.new.font) file.file.items (HintsBy c.args.asked.now c.hinted.result)
     file.ensures.0 file.ensures.1
     (rw (c.hinted.ensures, c.deref-in-Err-draw.ensures.value) (refl {a = hint_for c.in-Err-draw.fault.refusal file.file.items
-    c.args.asked.now.setting.opening.reading}))
+    c.args.asked.now.setting}))
 
 pub returns-in-Ok-put-clause-hint : goal.returns-in-Ok-put-clause-hint
 returns-in-Ok-put-clause-hint g c =
@@ -167,7 +167,7 @@ pub returns-clause-hint : goal.returns-clause-hint
 returns-clause-hint g c =
     rw (c.unhinted-in-Err-put.ensures, c.refusal_of_put.ensures)
     (if_some_all (g.R.Source.left c.args.font.now) _
-    (λ file. put_hints c.in-Err-put.fault file c.args.asked.now.setting.opening.reading))
+    (λ file. put_hints c.in-Err-put.fault file c.args.asked.now.setting))
 
 pub returns-in-Err-clause-defects : goal.returns-in-Err-clause-defects
 returns-in-Err-clause-defects g c = λ sized.

@@ -79,7 +79,7 @@ returns-in-Err-read_font-clause-hint g c =
     let font = c.read_font.new.font in
     rw (c.unhinted-in-Err-read_font.ensures, c.refusal_of_run.ensures)
     (if_some_all (left c.args.font.now) _ (λ file. reading_hints c.in-Err-read_font.fault (left c.args.font.now) (left font)
-    (g.F.Source.has_failed font) file c.args.asked.now.setting.opening.reading c.in-Err-read_font.ensures))
+    (g.F.Source.has_failed font) file c.args.asked.now.setting c.in-Err-read_font.ensures))
 
 pub returns-in-Ok-draw_labels_of-clause-hint : goal.returns-in-Ok-draw_labels_of-clause-hint
 returns-in-Ok-draw_labels_of-clause-hint g c =

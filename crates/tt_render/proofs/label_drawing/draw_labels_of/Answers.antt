@@ -3,7 +3,7 @@ use Rattle.tt_render_texts.specs.declared.refusal.TextsFault.{TextsFault}
 use Rattle.std.proofs.lemmas.Result.{err_from_is_err_and}
 use Rattle.tt_render.specs.Labels.{composed_glyphs}
 use Rattle.tt_render.specs.Labels.{label_notes}
-use Rattle.tt_render_settings.specs.Settings.{strike_by, strike_of}
+use Rattle.tt_render_settings.specs.Settings.{asked_in, strike_by, strike_of}
 use Rattle.tt_render_settings.proofs.DefectLines.{lines_tell, strike_tells}
 use Rattle.tt_render_settings.proofs.FontLines.{face_file, font_opened, font_refused, idle}
 use Rattle.tt_render.proofs.LabelCalls.{strike_unopened}
@@ -54,7 +54,7 @@ returns-clause-outcome g c =
 pub draw_labels_by-requires-clause-notes : goal.draw_labels_by-requires-clause-notes
 draw_labels_by-requires-clause-notes g c =
     let l = c.args.asked.now in
-    let file = face_file c.args.file.now l.setting.opening c.in_ok-face.face c.in_ok-face.ensures.exact in
+    let file = face_file c.args.file.now l.setting.opening (asked_in l.setting) c.in_ok-face.face c.in_ok-face.ensures.exact in
     rw (c.deref.ensures, c.in_ok-notes.ensures, c.in_ok-strike.ensures.exact) (ap (λ bytes. label_notes l bytes) file)
 
 pub returns-in_err-face-clause-defects : goal.returns-in_err-face-clause-defects

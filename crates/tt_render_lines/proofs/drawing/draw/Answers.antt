@@ -2,12 +2,12 @@ use Rattle.std.proofs.Common.{◌∙◌, inl, refl}
 use Rattle.std.proofs.lemmas.Result.{err_from_is_err_and}
 use Rattle.tt_line.specs.Layout.{text_glyphs}
 use Rattle.tt_render_lines.specs.declared.text_answers.ReadyText.{ReadyText}
-use Rattle.tt_render_settings.specs.Settings.{job_by, strike_by, strike_of}
+use Rattle.tt_render_settings.specs.LinesDefects.{IsTextDefect}
+use Rattle.tt_render_settings.specs.Settings.{asked_in, job_by, strike_by, strike_of}
 use Rattle.tt_render_settings.specs.Texts.{text_answer}
 use Rattle.tt_render_settings.proofs.FontLines.{face_file, font_opened, font_refused}
 use Rattle.tt_render_settings.proofs.OneText.{most_aside, none_in_file, strike_stops, strike_tells, text_stops, text_tells}
 use Rattle.tt_render_lines.proofs.drawing.draw.Goals as goal
-use Rattle.tt_strike.specs.Defects.{IsRunDefect}
 
 pub returns-in_err-face-clause-outcome : goal.returns-in_err-face-clause-outcome
 returns-in_err-face-clause-outcome c =
@@ -52,7 +52,7 @@ returns-in_err-face-clause-defects c =
 pub returns-in_err-strike-clause-defects : goal.returns-in_err-strike-clause-defects
 returns-in_err-strike-clause-defects c =
     let p = err_from_is_err_and c.from_residual-in_err-strike.result c.from_residual-in_err-strike.ensures.1 in
-    rw (p.1, p.2) (strike_tells ReadyText (IsRunDefect c.args.setting.now.opening (job_by c.args.setting.now c.args.text.now) c.args.file.now)
+    rw (p.1, p.2) (strike_tells ReadyText (IsTextDefect text_glyphs c.args.setting.now c.args.text.now c.args.file.now)
     c.in_err-strike.field-0.0 c.in_err-strike.ensures.font)
 
 pub returns-in-Ok-clause-defects : goal.returns-in-Ok-clause-defects
@@ -70,5 +70,5 @@ returns-clause-defects c =
 pub answer_text-requires : goal.answer_text-requires
 answer_text-requires c = record {
   file = rw c.in_ok-strike.ensures.exact
-      (face_file c.args.file.now c.args.setting.now.opening c.in_ok-face.face c.in_ok-face.ensures.exact);
+      (face_file c.args.file.now c.args.setting.now.opening (asked_in c.args.setting.now) c.in_ok-face.face c.in_ok-face.ensures.exact);
 }

@@ -3,7 +3,7 @@ use Rattle.std.proofs.lemmas.Result.{err_from_is_err_and}
 use Rattle.tt_line.specs.Layout.{text_glyphs}
 use Rattle.tt_render_settings.specs.LinesDefects.{LinesTellDefects}
 use Rattle.tt_render_streams.specs.Reading.{FontIsRead, FontIsUnread, font_reader_of}
-use Rattle.tt_render_settings.specs.Settings.{strike_by, strike_of}
+use Rattle.tt_render_settings.specs.Settings.{IsOpeningDefect, asked_in, strike_by, strike_of}
 use Rattle.tt_render_streams.proofs.Known.{known_of}
 use Rattle.tt_render_settings.proofs.DrawnLines.{kept_within}
 use Rattle.tt_render_settings.proofs.DefectLines.{lines_tell, reading_tells, setting_tells, strike_tells}
@@ -11,7 +11,6 @@ use Rattle.tt_render_settings.proofs.FontLines.{face_file, font_opened, font_ref
 use Rattle.tt_render_texts.proofs.Printed.{keeps_itself}
 use Rattle.tt_render_lines.specs.declared.drawing.LinesDrawn.{LinesDrawn}
 use Rattle.tt_render_lines.proofs.drawing.draw_lines.Goals as goal
-use Rattle.tt_face.specs.Files.{IsFaceDefectBy}
 use Rattle.tt_strike.specs.Strikes.{Strike}
 
 pub returns-in_err-test_setting-clause-outcome : goal.returns-in_err-test_setting-clause-outcome
@@ -97,7 +96,7 @@ returns-in_err-face-clause-defects g c =
     let file = c.in_ok-file in
     let fault = c.in_err-face.field-0.0 in
     let p = err_from_is_err_and c.from_residual-in_err-face.result c.from_residual-in_err-face.ensures.1 in
-    let Tells : List ℕ → Type 0 = λ bytes. IsFaceDefectBy bytes c.args.setting.now.opening.reading fault in
+    let Tells : List ℕ → Type 0 = λ bytes. IsOpeningDefect c.args.setting.now bytes fault in
     rw (p.1, p.2) (known_of (left c.args.font.now) (left c.read_font.new.font) file.file.items Tells file.ensures.0
     file.ensures.1 (subst Tells c.deref.ensures.value c.in_err-face.ensures.fault))
 
@@ -127,5 +126,5 @@ returns-clause-kept g c =
 pub draw_lines_by-requires-clause-file : goal.draw_lines_by-requires-clause-file
 draw_lines_by-requires-clause-file g c =
     rw (c.deref-2.ensures.value, c.in_ok-strike.ensures.exact)
-    (face_file c.in_ok-file.file.items c.args.setting.now.opening c.in_ok-face.face
+    (face_file c.in_ok-file.file.items c.args.setting.now.opening (asked_in c.args.setting.now) c.in_ok-face.face
     (rw c.deref.ensures.value at c.in_ok-face.ensures.exact))

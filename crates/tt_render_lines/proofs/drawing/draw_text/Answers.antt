@@ -1,6 +1,8 @@
 use Rattle.std.proofs.Common.{◌≡◌, ℕ, List, Ok, Err, inl, subst}
 use Rattle.std.proofs.lemmas.Result.{err_from_is_err_and}
 use Rattle.tt_render_texts.specs.declared.refusal.Refusal.TheVariants as reason
+use Rattle.tt_line.specs.Layout.{text_glyphs}
+use Rattle.tt_render_settings.specs.LinesDefects.{IsTextDefect}
 use Rattle.tt_render_streams.specs.Traffic.{traffic_of}
 use Rattle.tt_render_texts.specs.Printing.{errors_of}
 use Rattle.tt_render_streams.specs.Reading.{font_reader_of}
@@ -9,7 +11,6 @@ use Rattle.tt_render_settings.specs.Texts.{text_answer}
 use Rattle.tt_render_lines.specs.Outputs.{ReadiesText, answer_view}
 use Rattle.tt_render_settings.specs.TextsOutcome.{StopsAtFont, TextTellsDefects}
 use Rattle.tt_render_texts.specs.Views.{before_lines}
-use Rattle.tt_strike.specs.Defects.{IsRunDefect}
 use Rattle.tt_strike.specs.Job.{Job, tested}
 use Rattle.tt_render_streams.proofs.Known.{known_of}
 use Rattle.tt_render_settings.proofs.FontLines.{reading_stops}
@@ -100,7 +101,7 @@ pub returns-in_err-test_job-clause-defects : goal.returns-in_err-test_job-clause
 returns-in_err-test_job-clause-defects g c =
     let p = err_from_is_err_and c.from_residual.result c.from_residual.ensures.1 in
     rw (p.1, p.2) (job_tells (g.R.Source.left c.args.font.now)
-    (IsRunDefect c.args.setting.now.opening (job_by c.args.setting.now c.args.text.now)) c.in_err-test_job.field-0.0)
+    (IsTextDefect text_glyphs c.args.setting.now c.args.text.now) c.in_err-test_job.field-0.0)
 
 pub returns-in_err-file-clause-defects : goal.returns-in_err-file-clause-defects
 returns-in_err-file-clause-defects g c =
@@ -108,16 +109,15 @@ returns-in_err-file-clause-defects g c =
     let font = c.read_font.new.font in
     let p = err_from_is_err_and c.from_residual-in_err-file.result c.from_residual-in_err-file.ensures.1 in
     rw (p.1, p.2) (reading_tells c.in_err-file.field-0.0 (left c.args.font.now) (left font)
-    (g.R.Source.has_failed font) (IsRunDefect c.args.setting.now.opening (job_by c.args.setting.now c.args.text.now)) c.in_err-file.ensures)
+    (g.R.Source.has_failed font) (IsTextDefect text_glyphs c.args.setting.now c.args.text.now) c.in_err-file.ensures)
 
 pub returns-in_err-ready-clause-defects : goal.returns-in_err-ready-clause-defects
 returns-in_err-ready-clause-defects g c =
     let left = g.R.Source.left in
     let file = c.in_ok-file in
-    let a = job_by c.args.setting.now c.args.text.now in
     let fault = c.in_err-ready.field-0.0 in
     let p = err_from_is_err_and c.from_residual-in_err-ready.result c.from_residual-in_err-ready.ensures.1 in
-    let P : List ℕ → Type 0 = λ bytes. TextTellsDefects {V = Unit {0}} (IsRunDefect c.args.setting.now.opening a bytes) (Err fault) in
+    let P : List ℕ → Type 0 = λ bytes. TextTellsDefects {V = Unit {0}} (IsTextDefect text_glyphs c.args.setting.now c.args.text.now bytes) (Err fault) in
     let tells = subst P c.deref.ensures.value c.in_err-ready.ensures.defects in
     rw (p.1, p.2)
     (known_of (left c.args.font.now) (left c.read_font.new.font) file.file.items P file.ensures.0 file.ensures.1 tells)

@@ -1,8 +1,8 @@
 use Rattle.std.proofs.lemmas.Result.{err_from_is_err_and}
 use Rattle.tt_render_lines.specs.declared.layout_answers.ReadyLayout.{ReadyLayout}
 use Rattle.tt_render_settings.specs.Settings.{strike_in}
-use Rattle.tt_render_settings.proofs.OneText.{output_serves}
-use Rattle.tt_render_lines.proofs.LayoutCalls.{lines_stop, made_tell, none_made, stops_at_pens}
+use Rattle.tt_render_settings.proofs.OneText.{output_serves, output_tells}
+use Rattle.tt_render_lines.proofs.LayoutCalls.{lines_stop, stops_at_pens}
 use Rattle.tt_strike.specs.Strikes.{job_of}
 use Rattle.tt_render_lines.proofs.layout_answers.answer_layout.Goals as goal
 
@@ -23,8 +23,7 @@ returns-in_err-placed-clause-serves c =
 pub returns-in_err-placed-clause-defects : goal.returns-in_err-placed-clause-defects
 returns-in_err-placed-clause-defects c =
     let p = err_from_is_err_and c.from_residual.result c.from_residual.ensures.1 in
-    rw (p.1, p.2) (made_tell _ _ _ c.in_err-placed.field-0.0 c.in_err-placed.ensures.defects)
+    rw (p.1, p.2) (output_tells _ c.in_err-placed.field-0.0 c.in_err-placed.ensures.defects)
 
 pub returns-clause-defects : goal.returns-clause-defects
-returns-clause-defects c =
-    none_made _ _ _ c.in_ok-placed.placed c.in_ok-placed.ensures.defects
+returns-clause-defects c = c.in_ok-placed.ensures.defects

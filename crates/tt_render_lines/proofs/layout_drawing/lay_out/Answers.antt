@@ -4,7 +4,7 @@ use Rattle.tt_core.specs.declared.draw_fault.DrawFault.TheVariants as draw
 use Rattle.tt_strike.specs.Refusals.{as_job}
 use Rattle.tt_render_lines.specs.declared.layout_answers.ReadyLayout.{ReadyLayout}
 use Rattle.tt_render_lines.specs.LayoutTexts.{layout_answer}
-use Rattle.tt_render_settings.specs.Settings.{job_by, strike_by, strike_of}
+use Rattle.tt_render_settings.specs.Settings.{asked_in, job_by, strike_by, strike_of}
 use Rattle.tt_render_settings.proofs.FontLines.{face_file, font_opened, font_refused}
 use Rattle.tt_render_lines.proofs.LayoutCalls.{layout_tells, none_by_layout}
 use Rattle.tt_render_settings.proofs.OneText.{strike_stops, text_stops}
@@ -69,5 +69,5 @@ returns-in-Ok-clause-defects c =
 pub answer_layout-requires : goal.answer_layout-requires
 answer_layout-requires c = record {
   file = rw c.in_ok-sized.ensures.exact
-      (face_file c.args.file.now c.args.setting.now.opening c.in_ok-face.face c.in_ok-face.ensures.exact);
+      (face_file c.args.file.now c.args.setting.now.opening (asked_in c.args.setting.now) c.in_ok-face.face c.in_ok-face.ensures.exact);
 }

@@ -1,6 +1,0 @@
-use Rattle.tt_program_decisions.proofs.faces.fault_line.Goals as goal
-
-pub returns : goal.returns
-returns c =
-    rw (← c.tag-table.ensures.text, ← c.fault.view_is, ← c.number-number.ensures, ← c.name-name.ensures)
-    c.format.ensures.ok

@@ -1,0 +1,2 @@
+mod FaceCalls
+mod FaceTexts

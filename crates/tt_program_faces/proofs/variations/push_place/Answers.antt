@@ -1,0 +1,13 @@
+use Rattle.std.proofs.Common.{◌∙◌}
+use Rattle.std.proofs.lemmas.Int.{to_z-of_z}
+use Rattle.tt_axes.specs.Axes.{axis_of}
+use Rattle.tt_program_faces.specs.Variations.{comma, tag_words}
+use Rattle.tt_program_faces.proofs.FaceTexts.{place-more}
+use Rattle.tt_program_faces.proofs.variations.push_place.Goals as goal
+
+pub returns : goal.returns
+returns c =
+    let tag = tag_words (axis_of c.args.fvar.now c.args.i).tag in
+    c.in_ok-push_value.ensures
+    ∙ rw (c.in_ok-push_tag.ensures, c.in_ok-push_comma.ensures, c.axis.ensures.exact)
+    (simp to_z-of_z (place-more c.args.lines.now.items (comma c.args.i) tag c.place.ensures))

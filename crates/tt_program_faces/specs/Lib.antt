@@ -1,0 +1,2 @@
+pub mod FaceLines
+pub mod Variations
