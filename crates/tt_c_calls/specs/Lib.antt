@@ -1,5 +1,6 @@
 pub mod Refusals
 pub mod Answers
+pub mod Variations
 pub mod Asked
 pub mod Fonts
 pub mod Pictures
@@ -8,6 +9,7 @@ pub mod LineRooms
 pub mod Strikes
 pub mod Measures
 pub mod Maps
+pub mod VariationLists
 pub mod Bitmaps
 pub mod Offsets
 pub mod Layouts

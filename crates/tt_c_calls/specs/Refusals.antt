@@ -4,15 +4,18 @@ use Rattle.tt_core.specs.Faults.{Fault}
 use Rattle.tt_strike.specs.Refusals.{Refused, font, job, large}
 use Rattle.tt_core.specs.declared.draw_fault.DrawFault.{DrawFault}
 use Rattle.tt_core.specs.declared.draw_fault.DrawFault.TheVariants as draw
+use Rattle.tt_core.specs.declared.font_fault.FontFault.{FontFault}
+use Rattle.tt_core.specs.declared.font_fault.FontFault.TheVariants as reading
 use Rattle.tt_c_calls.specs.declared.fault.CallFault.{CallFault}
 use Rattle.tt_c_calls.specs.declared.fault.CallFault.TheVariants as call
 
--- the font or the job is refused as `run` refuses it; the way to fit has an unknown number; a line ends past the texts
--- or before it begins; the alignment has an unknown number; the width or the box of a label is out of its range, or
+-- the font or the job is refused as `run` refuses it; the way to fit has an unknown number; a job has too many values of
+-- axes; a line ends past the texts or before it begins; the alignment has an unknown number; the width or the box of a label is out of its range, or
 -- leaves no room between the margins; a text fits into its box at no size; the text is not UTF-8
 pub data Refusal : Type 0 where
   refused : Refused → Refusal
   unknown_fit : Refusal
+  axes_many : Refusal
   line_ends : Refusal
   unknown_align : Refusal
   width_range : Refusal
@@ -30,6 +33,7 @@ call_refusal (call.Font f) = Some (refused (font f))
 call_refusal (call.Job j) = Some (refused (job j))
 call_refusal call.FontLarge = Some (refused large)
 call_refusal call.UnknownFit = Some unknown_fit
+call_refusal call.AxesMany = Some axes_many
 call_refusal call.LineEnds = Some line_ends
 call_refusal call.UnknownAlign = Some unknown_align
 call_refusal call.WidthRange = Some width_range
@@ -48,3 +52,8 @@ abbrev pub call_of_draw : DrawFault → CallFault
 call_of_draw (draw.Font f) = call.Font f
 call_of_draw (draw.Job j) = call.Job j
 call_of_draw draw.Memory = call.Memory
+
+-- a fault of reading stops the call
+abbrev pub call_of_font : FontFault → CallFault
+call_of_font (reading.Font f) = call.Font f
+call_of_font reading.Memory = call.Memory

@@ -85,6 +85,7 @@ pub fn answer_of(fault: CallFault) -> CAnswer
         CallFault::UnknownFit => plain(2, 66),
         CallFault::LineEnds => plain(2, 67),
         CallFault::UnknownAlign => plain(2, 72),
+        CallFault::AxesMany => plain(2, 73),
         CallFault::WidthRange => plain(2, 69),
         CallFault::BoxRange => plain(2, 70),
         CallFault::BoxSmall => plain(2, 71),

@@ -2,9 +2,9 @@
 
 ghost use Rattle.std.specs.Prelude.{◌≡◌};
 ghost use Rattle.tt_c_calls.specs.declared.fault.CallFault.TheVariants as call;
-ghost use Rattle.tt_c_calls.specs.Refusals.{call_of_draw};
+ghost use Rattle.tt_c_calls.specs.Refusals.{call_of_draw, call_of_font};
 
-use tt_core::{Fault, JobFault};
+use tt_core::{Fault, FontFault, JobFault};
 use tt_strike::DrawFault;
 
 /// Why a call has no answer.
@@ -20,6 +20,8 @@ pub enum CallFault {
     UnknownFit,
     /// A line ends past the texts, or before it begins.
     LineEnds,
+    /// A job has more than 16 values of axes.
+    AxesMany,
     /// The alignment has an unknown number.
     UnknownAlign,
     /// The width of a label is out of its range, or leaves no column between the margins.
@@ -39,6 +41,17 @@ impl From<JobFault> for CallFault {
 
     fn from(fault: JobFault) -> CallFault {
         CallFault::Job(fault)
+    }
+}
+
+impl From<FontFault> for CallFault {
+    ghost from_gives = { λ f e. e ≡ call_of_font f };
+
+    fn from(fault: FontFault) -> CallFault {
+        match fault {
+            FontFault::Font(fault) => CallFault::Font(fault),
+            FontFault::Memory => CallFault::Memory,
+        }
     }
 }
 

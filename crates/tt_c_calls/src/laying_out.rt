@@ -14,7 +14,7 @@ use crate::asked::{TextRequest, job_of};
 use crate::fault::CallFault;
 use crate::mapping::selector_of;
 use crate::offsets::offsets_of;
-use crate::opening::opened_face;
+use crate::opening::job_face;
 use std::alloc::Global;
 use tt_strike::{Layout, Pen, SizedFace, TextPens, test_job};
 
@@ -95,7 +95,7 @@ fn pen_of(pen: &Pen, offset: usize) -> CPen
     }
 }
 
-/// The layout of a text by a font file. Errors, the first of: UnknownFit, NotUtf8; SizeRange, MarginRange, TextLong;
+/// The layout of a text by a font file. Errors, the first of: UnknownFit, AxesMany, NotUtf8; SizeRange, MarginRange, TextLong;
 /// FontLarge; those of the tables that every text needs; those of `SizedFace::layout`.
 #[tactic(auto, unfolding(crate::specs::Layouts::layout_wanted))]
 fn laid_out(alloc: Global, request: &TextRequest) -> Result<Layout, CallFault>
@@ -105,7 +105,7 @@ fn laid_out(alloc: Global, request: &TextRequest) -> Result<Layout, CallFault>
 {
     let asked = job_of(request.job, request.text)?;
     test_job(&asked)?;
-    let face = opened_face(request.font, asked.opening)?;
+    let face = job_face(request.font, request.job, asked.fit)?;
     let mut sized = SizedFace::new(alloc, &face, asked.ppem, asked.fit)?;
     Ok(sized.layout(asked.text, asked.margin)?)
 }
@@ -125,7 +125,7 @@ pub fn layout(alloc: Global, request: &TextRequest, told: &mut CLayout) -> CAnsw
     }
 }
 
-/// The pens of a text by a font file, and their offsets. Errors, the first of: UnknownFit, NotUtf8; SizeRange, MarginRange, TextLong;
+/// The pens of a text by a font file, and their offsets. Errors, the first of: UnknownFit, AxesMany, NotUtf8; SizeRange, MarginRange, TextLong;
 /// FontLarge; those of the tables that every text needs; those of `SizedFace::pens`.
 #[tactic(auto, unfolding(crate::specs::Layouts::pens_wanted))]
 fn pens_of(alloc: Global, request: &TextRequest) -> Result<PlacedPens, CallFault>
@@ -136,7 +136,7 @@ fn pens_of(alloc: Global, request: &TextRequest) -> Result<PlacedPens, CallFault
 {
     let asked = job_of(request.job, request.text)?;
     test_job(&asked)?;
-    let face = opened_face(request.font, asked.opening)?;
+    let face = job_face(request.font, request.job, asked.fit)?;
     let mut sized = SizedFace::new(alloc, &face, asked.ppem, asked.fit)?;
     let placed = sized.pens(asked.text, asked.margin)?;
     let TextPens { pens, .. } = placed;
