@@ -9,17 +9,18 @@ ghost use Rattle.tt_c_calls.specs.Fonts.{CountsFaces, OpensFont};
 ghost use Rattle.tt_c_calls.specs.Layouts.{LaysOutText, PlacesPens};
 ghost use Rattle.tt_c_calls.specs.LineRooms.{TellsRoom};
 ghost use Rattle.tt_c_calls.specs.Lines.{DrawsTexts};
-ghost use Rattle.tt_c_calls.specs.Maps.{MapsText};
+ghost use Rattle.tt_c_calls.specs.Maps.{MapsJob, MapsText};
 ghost use Rattle.tt_c_calls.specs.Measures.{MeasuresText, PlacesCharacters};
 ghost use Rattle.tt_c_calls.specs.Messages.{WritesMessage};
 ghost use Rattle.tt_c_calls.specs.Pictures.{DrawsBand};
 ghost use Rattle.tt_c_calls.specs.Strikes.{TellsStrike};
+ghost use Rattle.tt_c_calls.specs.VariationLists.{TellsAxes, TellsInstances};
 ghost use Rattle.tt_c_labels.specs.Labels.{DrawsLabel};
 
 use std::alloc::Global;
 use tt_c_calls::{
-    Band, CAnswer, CBitmap, CCharacter, CFont, CGlyph, CJob, CLayout, CLine, CMeasure, CPen,
-    CPicture, CStrike, TextRequest, Texts,
+    Band, CAnswer, CAxisRange, CBitmap, CCharacter, CFont, CGlyph, CInstance, CJob, CLayout, CLine,
+    CMeasure, CPen, CPicture, CStrike, TextRequest, Texts,
 };
 use tt_c_labels::{CLabel, CLabelJob, LabelRequest};
 
@@ -67,6 +68,38 @@ pub extern "C" fn tt_open_face(
     answer.status
 }
 
+/// `tt_c_calls::axes`.
+#[unsafe(no_mangle)]
+pub extern "C" fn tt_axes(
+    alloc: Global,
+    font: &[u8],
+    face: u32,
+    axes: &mut [CAxisRange],
+    answer: &mut CAnswer,
+) -> u32
+    ensures status { result ≡ answer.new.status }
+    ensures tells { TellsAxes (face_reading face) font.now axes.old axes.new answer.new }
+{
+    *answer = tt_c_calls::axes(alloc, font, face, axes);
+    answer.status
+}
+
+/// `tt_c_calls::instances`.
+#[unsafe(no_mangle)]
+pub extern "C" fn tt_instances(
+    alloc: Global,
+    font: &[u8],
+    face: u32,
+    instances: &mut [CInstance],
+    answer: &mut CAnswer,
+) -> u32
+    ensures status { result ≡ answer.new.status }
+    ensures tells { TellsInstances (face_reading face) font.now instances.old instances.new answer.new }
+{
+    *answer = tt_c_calls::instances(alloc, font, face, instances);
+    answer.status
+}
+
 /// `tt_c_calls::map` without a face.
 #[unsafe(no_mangle)]
 pub extern "C" fn tt_map(font: &[u8], text: &[u8], room: &mut [CGlyph], answer: &mut CAnswer) -> u32
@@ -90,6 +123,24 @@ pub extern "C" fn tt_map_face(
     ensures maps { MapsText (face_reading face) text.now font.now room.old room.new answer.new }
 {
     *answer = tt_c_calls::map(font, face, text, room);
+    answer.status
+}
+
+/// `tt_c_calls::map_job`.
+#[unsafe(no_mangle)]
+pub extern "C" fn tt_map_job(
+    alloc: Global,
+    font: &[u8],
+    text: &[u8],
+    job: &CJob,
+    room: &mut [CGlyph],
+    answer: &mut CAnswer,
+) -> u32
+    ensures status { result ≡ answer.new.status }
+    ensures maps { MapsJob job.now text.now font.now room.old room.new answer.new }
+{
+    let request = TextRequest { font, text, job };
+    *answer = tt_c_calls::map_job(alloc, &request, room);
     answer.status
 }
 

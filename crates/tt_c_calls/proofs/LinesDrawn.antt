@@ -141,7 +141,7 @@ cost_found (Ok a) by p grow made = cost_of_job a (by a.fit) p grow made
 pub cost_of_line : (j : CJob) (font line : List ℕ) (p : Picture) → IsPictureOf j line font p
     → cost_taken (cost_asked j font line) ≡ p.cost
 cost_of_line j font line p of =
-    ap cost_taken (cost_found (asked j line) (λ how. face_with font (job_opening j how)) p (grows j) of.made)
+    ap cost_taken (cost_found (asked j line) (λ how. face_at_instance font (job_opening j how) (job_instance j)) p (grows j) of.made)
 
 shown_cost : (j : CJob) (font line : List ℕ) (told : CPicture) (rows : List ℕ) (cost : ℕ)
     → IsShown j font line told rows cost → line_taken j font line ≡ cost

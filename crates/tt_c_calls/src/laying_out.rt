@@ -1,8 +1,8 @@
 //! A text laid out without its ink.
 
-ghost use Rattle.std.specs.Prelude.{◌≡◌, ◌≢◌, length, map, IfErr, IfOk};
+ghost use Rattle.std.specs.Prelude.{◌≡◌, ◌≢◌, length, map, IfErr, IfOk, None};
 ghost use Rattle.tt_core.specs.Outcomes.{GivesUnless, IfTold};
-ghost use Rattle.tt_c_calls.specs.Asked.{IsAskedDefect};
+ghost use Rattle.tt_c_calls.specs.Asked.{IsAskedDefect, job_instance};
 ghost use Rattle.tt_c_calls.specs.declared.fault.CallFault.TheVariants as call;
 ghost use Rattle.tt_c_calls.specs.Layouts.{ArePensTold, LaysOutText, PlacesPens, layout_told, layout_wanted, pen_told, pens_wanted};
 ghost use Rattle.tt_c_calls.specs.Measures.{IsEntriesSmall};
@@ -100,7 +100,7 @@ fn pen_of(pen: &Pen, offset: usize) -> CPen
 #[tactic(auto, unfolding(crate::specs::Layouts::layout_wanted))]
 fn laid_out(alloc: Global, request: &TextRequest) -> Result<Layout, CallFault>
     ensures exact { GivesUnless call_refusal (λ l. l) result (layout_wanted request.now.job.now request.now.text.now request.now.font.now) }
-    ensures memory { request.now.job.now.fit ≢ 3 → IfErr result (λ f. f ≢ call.Memory) }
+    ensures memory { request.now.job.now.fit ≢ 3 → job_instance request.now.job.now ≡ None → IfErr result (λ f. f ≢ call.Memory) }
     ensures defects { IfTold call_font_fault result (IsAskedDefect request.now.job.now request.now.text.now request.now.font.now) }
 {
     let asked = job_of(request.job, request.text)?;
@@ -112,7 +112,8 @@ fn laid_out(alloc: Global, request: &TextRequest) -> Result<Layout, CallFault>
 
 /// Lays out a text: the size of the picture that does not grow, its base line, and its distance from a next line.
 /// Answers: done; the font is refused, too large, or the job refused; memory was refused; the text is not UTF-8. Unless
-/// the answer is done, `told` is unchanged. Only with `Fit::Best` is memory taken, and are glyphs made.
+/// the answer is done, `told` is unchanged. Only with `Fit::Best` are glyphs made. Memory is taken with
+/// `Fit::Best` and at an instance.
 pub fn layout(alloc: Global, request: &TextRequest, told: &mut CLayout) -> CAnswer
     ensures { LaysOutText request.now.job.now request.now.text.now request.now.font.now told.old told.new result }
 {
