@@ -22,7 +22,9 @@ use Rattle.tt_face.specs.Instance.{Asked, face_at_instance}
 use Rattle.tt_fit.specs.declared.programs.Fit.{Fit}
 use Rattle.tt_fit.specs.declared.programs.Fit.TheVariants as fit
 use Rattle.tt_line.specs.Layout.{text_glyphs}
-use Rattle.tt_line.specs.Steps.{linear_line, step_in_pixels, stepped}
+use Rattle.tt_advances.specs.Found.{advances_tested}
+use Rattle.tt_advances.specs.Lines.{advance_line, advance_step}
+use Rattle.tt_line.specs.Steps.{stepped}
 use Rattle.tt_line.proofs.Stepped.{length-stepped}
 use Rattle.tt_strike.specs.declared.layouts.Pen.{Pen}
 use Rattle.tt_metrics.specs.Metrics.{Metrics, glyphs_of, metrics_of}
@@ -152,7 +154,7 @@ stepped_counted m step cmap text =
     length-stepped m step (text_glyphs cmap text) ∙ length-map (units_by cmap (chars text)) (glyph_of_unit cmap)
 
 steps_by : (after : Bool) (face : Face) (a : Job) (steps : List (ℕ × ℕ))
-    → (if after then made_steps face a else Ok (linear_line face.metrics a.ppem (text_glyphs face.cmap a.text))) ≡ Ok steps
+    → (if after then made_steps face a else found_steps face a) ≡ Ok steps
     → length steps ≡ length (units_by face.cmap (chars a.text))
 steps_by true face a steps is =
     let gs = text_glyphs face.cmap a.text in
@@ -162,8 +164,10 @@ steps_by true face a steps is =
     let same : made_line face.metrics a.ppem s gs ≡ steps = cc in
     rw (← same) (stepped_counted face.metrics (step_by face.metrics a.ppem (advance_with s gs)) face.cmap a.text)
 steps_by false face a steps is =
-    let same : linear_line face.metrics a.ppem (text_glyphs face.cmap a.text) ≡ steps = cc in
-    rw (← same) (stepped_counted face.metrics (step_in_pixels face.metrics a.ppem) face.cmap a.text)
+    let gs = text_glyphs face.cmap a.text in
+    let found = came-through (as_font (advances_tested face gs)) _ steps is in
+    let same : advance_line face a.ppem gs ≡ steps = let rest = found.rest in cc in
+    rw (← same) (stepped_counted face.metrics (advance_step face a.ppem) face.cmap a.text)
 
 steps_counted : (face : Face) (a : Job) (steps : List (ℕ × ℕ)) → steps_outcome face a ≡ Ok steps
     → length steps ≡ length (units_by face.cmap (chars a.text))

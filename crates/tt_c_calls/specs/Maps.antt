@@ -1,6 +1,7 @@
 -- No part of the standard: the units of a text in a font, for C (profile).
 use Rattle.std.specs.Prelude.{◌≡◌, ◌≢◌, ℕ, List, ◌++◌, chars, length, drop, map, zip, Option, Some, None, Result, Ok, IsOkAnd, ◌⊎◌}
-use Rattle.tt_advances.specs.Found.{IsAdvanceDefect, advances_tested, units_of}
+use Rattle.tt_advances.specs.Defects.{IsAdvanceDefect}
+use Rattle.tt_advances.specs.Found.{advances_tested, units_of}
 use Rattle.tt_cmap.specs.declared.units.TextUnit.{TextUnit}
 use Rattle.tt_cmap.specs.Maps.{CharacterMap, glyph_of_unit, units_by}
 use Rattle.tt_core.specs.declared.collection.Reading.{Reading}

@@ -1,11 +1,11 @@
 //! The glyphs of a text's units.
 
 ghost use Rattle.std.specs.Prelude.{◌≡◌, ◌≢◌, ◌<◌, ◌≤◌, All, IfOk, length, chars, map, zip};
-ghost use Rattle.tt_advances.specs.Found.{units_of};
-ghost use Rattle.tt_cmap.specs.Maps.{glyph_count, units_by};
+ghost use Rattle.tt_cmap.specs.Maps.{units_by};
 ghost use Rattle.tt_core.specs.Limits.{text_limit};
 ghost use Rattle.tt_core.specs.Outcomes.{FontGives, GivesUnless, IfTold, font_fault};
 ghost use Rattle.tt_line.specs.Layout.{text_glyphs};
+ghost use Rattle.tt_metrics.specs.Metrics.{advance_of, glyphs_of};
 ghost use Rattle.tt_c_calls.specs.Asked.{face_reading};
 ghost use Rattle.tt_c_calls.specs.Maps.{AreGlyphsTold, IsAdvancesDefect, IsMapDefect, MapsJob, MapsText, glyph_told, glyph_with, map_wanted, selector_told, text_mapped, text_told, units_found};
 ghost use Rattle.tt_c_calls.specs.Measures.{IsEntriesSmall};
@@ -95,25 +95,31 @@ pub fn map(font: &[u8], face: u32, text: &[u8], room: &mut [CGlyph]) -> CAnswer
     }
 }
 
-/// The glyph of each unit of a text. Error: memory ran out.
-fn glyph_list(alloc: Global, cmap: &CharacterMap, text: &str) -> Result<Vec<(u16, u32)>, AllocError>
-    ensures glyphs { IfOk result (λ v. map (λ g. g.0) v.items ≡ text_glyphs cmap.now text.now) }
-    ensures known { IfOk result (λ v. All (λ g. g.0 < glyph_count cmap.now) v.items) }
+/// The glyph of each unit of a text with the advance that the tables give, in font units. Error: memory ran out.
+fn table_units(alloc: Global, face: &Face, text: &str) -> Result<Vec<(u16, u32)>, AllocError>
+    ensures exact { IfOk result (λ v. v.items ≡ map (λ g. (g, advance_of face.now.metrics g)) (text_glyphs face.now.cmap text.now)) }
+    ensures known { IfOk result (λ v. All (λ g. g.0 < glyphs_of face.now.metrics) v.items) }
 {
     let mut glyphs = Vec::new(alloc);
-    for unit in cmap.units(text) {
-        glyphs.push((cmap.glyph_of_unit(unit), 0))?;
+    for unit in face.cmap().units(text) {
+        let glyph = face.cmap().glyph_of_unit(unit);
+        glyphs.push((glyph, u32::from(face.metrics().advance(glyph))))?;
     }
     Ok(glyphs)
 }
 
-/// The glyph of each unit of a text with its advance in font units. Errors: those of `find_units`.
+/// The glyph of each unit of a text with its advance in font units. Errors: those of `find_units`, where advances have
+/// to be found.
+#[tactic(auto, unfolding(tt_advances::specs::Found::advances_tested))]
 fn units_found(alloc: Global, face: &Face, text: &str) -> Result<Vec<(u16, u32)>, FontFault>
     ensures exact { FontGives (λ v. v.items) result (units_found face.now (text_glyphs face.now.cmap text.now)) }
     ensures defects { IfTold font_fault result (IsAdvancesDefect face.now text.now) }
 {
-    let mut glyphs = glyph_list(alloc, face.cmap(), text)?;
-    find_units(alloc, face, &mut glyphs)?;
+    tt_advances::laws::tables_give_advances();
+    let mut glyphs = table_units(alloc, face, text)?;
+    if face.finds_advances() {
+        find_units(alloc, face, &mut glyphs)?;
+    }
     Ok(glyphs)
 }
 
