@@ -148,8 +148,9 @@ const struct call pens = {"tt_pens", ask_pens, sizeof(struct tt_pen), 0, true, t
 const struct call glyphs = {"tt_glyphs", ask_glyphs, 1, LIST * sizeof(struct tt_bitmap), false, true, 4};
 const struct call messages = {"tt_message", ask_message, 1, 0, false, false, 1};
 
-const struct call *const every_call[] = {&opens,    &maps,       &maps_job, &axes,    &instances, &draws,  &draws_band, &labels,
-                                         &measures, &characters, &strikes,  &layouts, &pens,      &glyphs, &messages,   NULL};
+const struct call *const every_call[] = {
+    &opens,    &maps,       &maps_job, &axes,    &instances, &draws,  &draws_band, &labels,
+    &measures, &characters, &strikes,  &layouts, &pens,      &glyphs, &messages,   NULL};
 
 bool are_alike(const struct tt_answer *one, const struct tt_answer *other) {
   return memcmp(one, other, sizeof *one) == 0;

@@ -474,7 +474,8 @@ static void try_instances(struct room variable, struct room text) {
                   plain = {.size = 48, .fit = fit}, default_place = {.size = 48, .fit = fit, .axes = 1};
     memcpy(place.axis, weights, sizeof weights);
     size_t bytes = rows_of(variable, text, &number, by_number, sizeof by_number);
-    expect(bytes == rows_of(variable, text, &place, by_place, sizeof by_place) && memcmp(by_number, by_place, bytes) == 0,
+    expect(bytes == rows_of(variable, text, &place, by_place, sizeof by_place) &&
+               memcmp(by_number, by_place, bytes) == 0,
            "tt_draw: instance 1 is not at 650");
     default_place.axis[0] = (struct tt_axis){TT_TAG('w', 'g', 'h', 't'), 400 << 16};
     size_t before = rows_of(variable, text, &plain, by_place, sizeof by_place);

@@ -127,7 +127,7 @@ class Axis(NamedTuple):
 
 
 class Instance(NamedTuple):
-    """A named instance of a variable font: its number, its value on each axis in the order of the axes, and its name."""
+    """A named instance of a variable font: its number, its value on each axis, and its name."""
 
     number: int
     places: tuple[float, ...]
@@ -176,8 +176,8 @@ def _tag_asked(tag: str) -> int:
 
 
 class Font:
-    """A face of a font file, at an instance if one is asked for. With the face None the file is no collection, and is read
-    strictly.
+    """A face of a font file, at an instance if one is asked for. With the face None the file is no collection, and is
+    read strictly.
 
     `instance` is the number of a named instance, from 0 on, or its name. `axes` has values of axes by their tags, which
     come after those of the named instance. The figures of the font are those of its default.

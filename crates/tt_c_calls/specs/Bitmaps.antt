@@ -79,8 +79,8 @@ bitmap_told e = bitmap_by e e.told
 abbrev pub plain_face : List ℕ → CJob → Fit → Result Face Fault
 plain_face file j how = face_at_instance file (plain_of j how) (job_instance j)
 
--- the bitmaps of a list by a font file. The way to fit, the number of values of axes, the size and the count are tested in
--- this order, and then the font's size
+-- the bitmaps of a list by a font file. The way to fit, the number of values of axes, the size and the count are tested
+-- in this order, and then the font's size
 unfoldable pub bitmaps_wanted : CJob → List ℕ → List ℕ → Result Bitmaps Refusal
 bitmaps_wanted j glyphs font =
     job_fit j >>= λ how. as_call (as_job (limits_tested glyphs j.size) >>= λ u. of_font (λ file.

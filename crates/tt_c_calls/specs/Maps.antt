@@ -63,10 +63,11 @@ units_found face gs = advances_tested face gs >>= λ u. Ok (map (λ g. (g, units
 -- the units of a text in a face, or the first fault
 abbrev pub text_mapped : List ℕ → Face → Result (List CGlyph) Fault
 text_mapped t face =
-    units_found face (text_glyphs face.cmap t) >>= λ found. Ok (map glyph_with (zip (units_by face.cmap (chars t)) found))
+    units_found face (text_glyphs face.cmap t) >>= λ found.
+    Ok (map glyph_with (zip (units_by face.cmap (chars t)) found))
 
--- the units of a job's text by a font file: the way to fit, the number of values of axes and the text are tested first, and
--- then the font's size
+-- the units of a job's text by a font file: the way to fit, the number of values of axes and the text are tested first,
+-- and then the font's size
 unfoldable pub map_wanted : CJob → List ℕ → List ℕ → Result (List CGlyph) Refusal
 map_wanted j text font =
     job_fit j >>= λ how. text_asked text >>= λ t. as_call (as_job (text_tested t) >>= λ u. of_font (λ file.
@@ -105,10 +106,20 @@ pub record MapsText (r : Reading) (text font : List ℕ) (before room : List CGl
   pub kept : a.status ≢ 0 → room ≡ before
   pub stands : DefectStands (IsFaceDefectBy font r) a
 
+-- the units of a job's text were written at the front of a room
+abbrev pub IsMapTold : CJob → List ℕ → List ℕ → List CGlyph → List CGlyph → CAnswer → Type 0
+IsMapTold j text font old new a =
+    (glyphs : List CGlyph) × (map_wanted j text font ≡ Ok glyphs) × AreGlyphsTold glyphs old new a
+
+-- they are more than a room has, and the answer reports their number
+abbrev pub IsMapSmall : CJob → List ℕ → List ℕ → ℕ → CAnswer → Type 0
+IsMapSmall j text font room a =
+    (glyphs : List CGlyph) × (map_wanted j text font ≡ Ok glyphs) × IsEntriesSmall (length glyphs) room a
+
 -- a call wrote the units of a job's text at the front of a room, or says why not
 pub record MapsJob (j : CJob) (text font : List ℕ) (before room : List CGlyph) (a : CAnswer) : Type 0 where
-  pub done : a.status ≡ 0 → (glyphs : List CGlyph) × (map_wanted j text font ≡ Ok glyphs) × AreGlyphsTold glyphs before room a
+  pub done : a.status ≡ 0 → IsMapTold j text font before room a
   pub refused : a.status ≢ 0 → a.status ≢ 7 → TellsRefusal (map_wanted j text font) a
-  pub small : a.status ≡ 7 → (glyphs : List CGlyph) × (map_wanted j text font ≡ Ok glyphs) × IsEntriesSmall (length glyphs) (length before) a
+  pub small : a.status ≡ 7 → IsMapSmall j text font (length before) a
   pub kept : a.status ≢ 0 → room ≡ before
   pub stands : DefectStands (IsMapDefect j text font) a

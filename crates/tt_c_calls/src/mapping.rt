@@ -190,8 +190,8 @@ fn write_all(glyphs: &[CGlyph], room: &mut [CGlyph]) -> CAnswer
 }
 
 /// Writes the glyph and the advance of each unit of a text, in the order of the text, by a job: its way to fit for the
-/// reading, its face and its instance. Answers: done, with the number of units; the font is refused, too large, or the job
-/// refused; memory was refused; the text is not UTF-8; the room is too small. Unless the answer is done, `room` is
+/// reading, its face and its instance. Answers: done, with the number of units; the font is refused, too large, or the
+/// job refused; memory was refused; the text is not UTF-8; the room is too small. Unless the answer is done, `room` is
 /// unchanged.
 pub fn map_job(alloc: Global, request: &TextRequest, room: &mut [CGlyph]) -> CAnswer
     ensures { MapsJob request.now.job.now request.now.text.now request.now.font.now room.old room.new result }

@@ -181,9 +181,9 @@ fn write_instances(instances: &[CInstance], room: &mut [CInstance]) -> CAnswer
     sized(DONE, 0, count as u64)
 }
 
-/// Writes the axes of a face, in the order of the table fvar. The face is as in a job. A face whose table fvar is not whole
-/// has none. Answers: done, with the number of axes; the font is refused, or too large; memory was refused; the room is too
-/// small. Unless the answer is done, `room` is unchanged.
+/// Writes the axes of a face, in the order of the table fvar. The face is as in a job. A face whose table fvar is not
+/// whole has none. Answers: done, with the number of axes; the font is refused, or too large; memory was refused; the
+/// room is too small. Unless the answer is done, `room` is unchanged.
 pub fn axes(alloc: Global, font: &[u8], face: u32, room: &mut [CAxisRange]) -> CAnswer
     ensures { TellsAxes (face_reading face) font.now room.old room.new result }
 {
@@ -193,7 +193,8 @@ pub fn axes(alloc: Global, font: &[u8], face: u32, room: &mut [CAxisRange]) -> C
     }
 }
 
-/// Writes the named instances of a face, the first 256 of the table fvar. Answers: as `axes`, with the number of instances.
+/// Writes the named instances of a face, the first 256 of the table fvar. Answers: as `axes`, with the number of
+/// instances.
 pub fn instances(alloc: Global, font: &[u8], face: u32, room: &mut [CInstance]) -> CAnswer
     ensures { TellsInstances (face_reading face) font.now room.old room.new result }
 {
