@@ -23,9 +23,9 @@ use Rattle.tt_c_calls.specs.Fonts.{face_wanted}
 use Rattle.tt_c_calls.specs.Measures.{IsEntriesSmall}
 use Rattle.tt_c_calls.specs.Refusals.{Refusal}
 
--- at most 67 bytes of a name, and zeros up to 68 bytes
+-- a room of 68 bytes with at most 67 bytes of a name at its front, and else zeros
 abbrev pub told_name : List ℕ → List ℕ
-told_name name = take 67 name ++ replicate (68 - min (length name) 67) 0
+told_name name = take (min (length name) 67) name ++ drop (min (length name) 67) (replicate 68 0)
 
 -- an axis
 abbrev pub axis_told : VariationAxis → List ℕ → CAxisRange
@@ -41,10 +41,10 @@ axis_told a name = record {
 abbrev pub axis_at : Directory → List ℕ → ℕ → CAxisRange
 axis_at d fvar i = axis_told (axis_of fvar i) (name_of (axis_of fvar i).name d)
 
--- the places of named instance k, and zeros up to the greatest number of axes
+-- a room for the greatest number of axes, with the places of named instance k at its front, and else zeros
 abbrev pub places_told : List ℕ → ℕ → List ℤ
 places_told fvar k =
-    map (place_in fvar k) (range_with_len 0 (axis_count fvar)) ++ replicate (axis_limit - axis_count fvar) (pos 0)
+    map (place_in fvar k) (range_with_len 0 (axis_count fvar)) ++ drop (axis_count fvar) (replicate axis_limit (pos 0))
 
 -- named instance k, by the number that a job gives for it
 abbrev pub instance_told : List ℕ → ℕ → List ℕ → CInstance

@@ -18,6 +18,10 @@ axes_tested n = if nat_lt axes_most n then Err axes_many else Ok tt
 abbrev pub axis_value : CAxis → AxisValue
 axis_value a = record { tag = to_be_bytes w32 a.tag; value = a.value }
 
+-- the values before any is given
+abbrev pub no_values : List AxisValue
+no_values = replicate axes_most (record { tag = 0 ∷ 0 ∷ 0 ∷ 0 ∷ []; value = pos 0 })
+
 -- the named instance of a number: none for 0, instance k for k + 1
 abbrev pub instance_named : ℕ → Option Named
 instance_named n = if n == 0 then None else Some (by_number (n - 1))

@@ -1,10 +1,10 @@
 //! The instance of a variable font that a job asks for.
 
-ghost use Rattle.std.specs.Prelude.{◌≡◌, ◌++◌, IfErr, drop, map, min, option_map, take};
+ghost use Rattle.std.specs.Prelude.{◌≡◌, ◌≤◌, ◌++◌, IfErr, drop, map, option_map, take};
 ghost use Rattle.tt_core.specs.Outcomes.{GivesUnless, IfTold};
 ghost use Rattle.tt_face.specs.Views.{asked_view, named_view};
 ghost use Rattle.tt_c_calls.specs.Refusals.{call_font_fault, call_refusal};
-ghost use Rattle.tt_c_calls.specs.Variations.{axes_most, axes_tested, axis_value, instance_asked, instance_named};
+ghost use Rattle.tt_c_calls.specs.Variations.{axes_most, axes_tested, axis_value, instance_asked, instance_named, no_values};
 ghost use Rattle.tt_c_calls.specs.declared.fault.CallFault.TheVariants as call;
 
 use crate::fault::CallFault;
@@ -59,7 +59,7 @@ fn axis_value(axis: CAxis) -> AxisValue
 /// The values of axes, of which the first `count` are converted.
 fn values_of(count: usize, axis: &[CAxis; AXES_MOST]) -> [AxisValue; AXES_MOST]
     requires { count ≤ axes_most }
-    ensures { take count result ≡ map axis_value (take count axis.now) }
+    ensures { result ≡ map axis_value (take count axis.now) ++ drop count no_values }
 {
     let none = AxisValue {
         tag: [0; 4],
@@ -98,7 +98,7 @@ impl JobInstance {
 
     /// The instance as a face is asked for it; none where the job has neither a number nor values.
     pub fn asked(&self) -> Option<AskedInstance<'_>>
-        ensures { option_map asked_view result.entry ≡ self.now }
+        ensures { option_map asked_view result ≡ self.now }
     {
         if self.number == 0 && self.count == 0 {
             return None;

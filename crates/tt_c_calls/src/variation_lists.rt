@@ -1,6 +1,6 @@
 //! The axes and the named instances of a face, in a caller's room. OpenType, "fvar: Font Variations Table".
 
-ghost use Rattle.std.specs.Prelude.{◌≡◌, ◌≢◌, ◌≤◌, ◌<◌, IfOk, length};
+ghost use Rattle.std.specs.Prelude.{◌≡◌, ◌≢◌, ◌++◌, ◌≤◌, ◌<◌, IfOk, drop, length};
 ghost use Rattle.tt_axes.specs.Fvar.{axis_count, instance_count};
 ghost use Rattle.tt_core.specs.Outcomes.{GivesUnless, IfTold};
 ghost use Rattle.tt_face.specs.Files.{IsFaceDefectBy};
@@ -48,13 +48,21 @@ pub struct CInstance {
     pub name: [u8; NAME_ROOM],
 }
 
+/// Writes a text at the front of a room.
+fn put(text: &[u8], room: &mut [u8])
+    requires { length text.now ≤ length room.old }
+    ensures { room.new ≡ text.now ++ drop (length text.now) room.old }
+{
+    room[..text.len()].copy_from_slice(text);
+}
+
 /// A name with zeros at its end.
 fn told_name(name: &[u8]) -> [u8; NAME_ROOM]
     ensures { result ≡ told_name name.now }
 {
     let count = name.len().min(NAME_ROOM - 1);
     let mut told = [0; NAME_ROOM];
-    told[..count].copy_from_slice(&name[..count]);
+    put(&name[..count], &mut told);
     told
 }
 
