@@ -101,8 +101,9 @@ fn table_units(alloc: Global, face: &Face, text: &str) -> Result<Vec<(u16, u32)>
     ensures known { IfOk result (λ v. All (λ g. g.0 < glyphs_of face.now.metrics) v.items) }
 {
     let mut glyphs = Vec::new(alloc);
-    for unit in face.cmap().units(text) {
-        let glyph = face.cmap().glyph_of_unit(unit);
+    let cmap = face.cmap();
+    for unit in cmap.units(text) {
+        let glyph = cmap.glyph_of_unit(unit);
         glyphs.push((glyph, u32::from(face.metrics().advance(glyph))))?;
     }
     Ok(glyphs)

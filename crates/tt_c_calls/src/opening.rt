@@ -66,7 +66,8 @@ pub fn opened_face<'a>(
     ensures defects { TellsDefects call_font_fault (IsDefectAtInstance font.now opening (option_map asked_view instance.entry)) result }
     ensures memory { IfErr result (λ f. f ≢ call.Memory) }
 {
-    if FONT_LIMIT < font.len() {
+    let is_large = font.len() > FONT_LIMIT;
+    if is_large {
         return Err(CallFault::FontLarge);
     }
     match Face::read_at(font, opening, instance) {
