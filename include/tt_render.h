@@ -75,8 +75,8 @@
  *
  * Cost: tt_faces, tt_open, tt_map, with a face too, tt_map_job, tt_axes, tt_instances and tt_strike read tables alone.
  * So do tt_layout and tt_pens without TT_BEST; with TT_BEST they cost what tt_measure does, less the ink. At an
- * instance of a font without the table HVAR an advance is read from the glyph's data. A glyph at an instance takes some
- * 100 instructions for each delta of its points. tt_measure, tt_characters, tt_draw, tt_draw_band and tt_label each run
+ * instance of a font without the table HVAR these read the glyphs' data for the advances, which no count bounds. A
+ * glyph at an instance takes some 100 instructions for each delta of its points. tt_measure, tt_characters, tt_draw, tt_draw_band and tt_label each run
  * the font's first two programs and fit all glyphs of the text: with hinting mostly some million instructions. This is
  * so even where the room is too small. With a box tt_label does so for each size that it tries: for a text that is far
  * smaller than its box some hundred times. tt_glyphs runs the two programs once and fits each glyph of its list once,

@@ -22,7 +22,7 @@ use Rattle.tt_c_calls.specs.Refusals.{Refusal, as_call}
 unfoldable pub face_wanted : Reading → List ℕ → Result Face Refusal
 face_wanted r font = as_call (of_font (λ file. as_font (face_by file r)) font)
 
--- the same tables at an instance, if one is asked for, with the rules of their lines
+-- the same tables at an instance, if one is requested, with the rules of their lines
 unfoldable pub opened_wanted : Opening → Option Asked → List ℕ → Result Face Refusal
 opened_wanted o i font = as_call (of_font (λ file. as_font (face_at_instance file o i)) font)
 

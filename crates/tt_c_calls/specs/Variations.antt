@@ -26,7 +26,7 @@ no_values = replicate axes_most (record { tag = 0 ∷ 0 ∷ 0 ∷ 0 ∷ []; valu
 abbrev pub instance_named : ℕ → Option Named
 instance_named n = if n == 0 then None else Some (by_number (n - 1))
 
--- an instance by a number and so many values of axes. With neither nothing is asked for
+-- an instance by a number and some values of axes; none with neither
 abbrev pub asked_by : ℕ → ℕ → List AxisValue → Option Asked
 asked_by n count values =
     if (n == 0) && (count == 0) then None else Some (record { named = instance_named n; axes = values })

@@ -54,7 +54,7 @@ pub(crate) fn face_of<'a>(font: &'a [u8], reading: Reading) -> Result<Face<'a>, 
     }
 }
 
-/// The tables that every text needs, at an instance if one is asked for, with the rules of its lines. Errors: as
+/// The tables that every text needs, at an instance if one is requested, with the rules of its lines. Errors: as
 /// `face_of`, and those of the instance.
 #[tactic(auto, unfolding(crate::specs::Fonts::opened_wanted))]
 pub fn opened_face<'a>(

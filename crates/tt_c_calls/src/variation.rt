@@ -1,4 +1,4 @@
-//! The instance of a variable font that a job asks for.
+//! The instance of a variable font that a job requests.
 
 ghost use Rattle.std.specs.Prelude.{◌≡◌, ◌≤◌, ◌++◌, IfErr, drop, map, option_map, take};
 ghost use Rattle.tt_core.specs.Outcomes.{GivesUnless, IfTold};
@@ -25,8 +25,8 @@ pub struct CAxis {
     pub value: i32,
 }
 
-/// The instance that a job asks for, with its values of axes. A call keeps them here while it runs. Clauses see what is
-/// asked for, if anything is.
+/// The instance that a job requests, with its values of axes. A call keeps them here while it runs. Clauses see the
+/// request, if there is one.
 #[derive(Drop)]
 pub struct JobInstance {
     number: u32,
@@ -56,7 +56,7 @@ fn axis_value(axis: CAxis) -> AxisValue
     }
 }
 
-/// The values of axes, of which the first `count` are converted.
+/// The first `count` values of axes, and blank ones behind them.
 fn values_of(count: usize, axis: &[CAxis; AXES_MOST]) -> [AxisValue; AXES_MOST]
     requires { count ≤ axes_most }
     ensures { result ≡ map axis_value (take count axis.now) ++ drop count no_values }
@@ -83,7 +83,7 @@ fn instance_named(number: u32) -> Option<NamedBy<'static>>
 }
 
 impl JobInstance {
-    /// The instance of a number, and of the first `axes` values, of which at most 16 count.
+    /// The instance of a number, and of the first `axes` values, at most 16.
     #[tactic(auto, unfolding(crate::specs::Variations::instance_asked))]
     pub fn new(number: u32, axes: u32, axis: &[CAxis; AXES_MOST]) -> JobInstance
         ensures { result ≡ instance_asked number axes axis.now }
@@ -96,7 +96,7 @@ impl JobInstance {
         }
     }
 
-    /// The instance as a face is asked for it; none where the job has neither a number nor values.
+    /// The request for a face; none where the job has neither a number nor values.
     pub fn asked(&self) -> Option<AskedInstance<'_>>
         ensures { option_map asked_view result ≡ self.now }
     {

@@ -1,4 +1,4 @@
-use Rattle.std.proofs.Common.{◌∙◌, ◌∷◌, ◌++◌, ◌+◌, [], ap, arith, drop, length, map, pos, refl, replicate, sym, ◌≡◌}
+use Rattle.std.proofs.Common.{◌∙◌, ◌∷◌, ◌++◌, ◌+◌, [], SFits, ap, arith, drop, length, map, pos, refl, replicate, rules, sym, w32, ◌≡◌}
 use Rattle.std.proofs.lemmas.Int.{to_z-of_z}
 use Rattle.std.proofs.lemmas.List.{length-map}
 use Rattle.std.proofs.lemmas.List.FromFn.{length-range_with_len, map-range_with_len_more}
@@ -10,6 +10,7 @@ use Rattle.tt_c_calls.proofs.variation_lists.places_told.Goals as goal
 
 pub loop-i-preserved : goal.loop-i-preserved
 loop-i-preserved c =
+    let fits : SFits w32 c.place.result = search rules in
     let f = place_in c.args.fvar.now c.args.k in
     let i = c.loop-i.i in
     let zeros = replicate axis_limit (pos 0) in
