@@ -14,8 +14,8 @@ use Rattle.tt_fit.specs.declared.programs.Fit.TheVariants as fit
 use Rattle.tt_line.specs.Layout.{text_glyphs}
 use Rattle.tt_strike.specs.Defects.{IsLineDefect}
 use Rattle.tt_strike.specs.Job.{IsSizeRefusal, Job, tested}
-use Rattle.tt_strike.specs.Layouts.{IsNotMemory, TellsMadeDefects, layout_outcome, pens_outcome}
-use Rattle.tt_strike.specs.Work.{is_bounded, reads_glyphs}
+use Rattle.tt_strike.specs.Layouts.{HasLayoutDefect, IsNotMemory, LayoutDefectBy, ReadsNoGlyph, layout_outcome, pens_outcome}
+use Rattle.tt_strike.specs.Work.{is_bounded, lays_after_glyphs}
 use Rattle.tt_c_calls.specs.declared.asked.CJob.{CJob}
 use Rattle.tt_c_calls.specs.declared.fault.CallFault.TheVariants as call
 use Rattle.tt_c_calls.specs.Asked.{IsAskedDefect, asked, fit_asked, job_fit, job_instance, job_opening, text_asked}
@@ -47,20 +47,21 @@ pub pens_of_face : (j : CJob) (text font : List ℕ) (a : Job) (face : Face) →
 pens_of_face j text font a face is passes read =
     pens_of_tables j text font a is passes ∙ rw read refl
 
--- a fault of the glyphs, where these are made, is a defect that the job meets
-told_if_made : (V : Type 0) (made : Bool) (P : Fault → Type 0) (d : DrawFault) → TellsMadeDefects {V = V} made P (Err d)
-    → IfSome (draw_font_fault d) P
-told_if_made V true P d tells = tells
-told_if_made V false P d tells = if_some_more (draw_font_fault d) (λ f. ⊥) P (λ f never. absurd never) tells
+-- a defect by which a text is not laid out is one that the job meets
+laid_line : (after : Bool) (face : Face) (a : Job) (gs : List ℕ) (f : Fault) → lays_after_glyphs a.fit ≡ after
+    → LayoutDefectBy after face a gs f → IsLineDefect face a gs f
+laid_line true face a gs f is defect = defect
+laid_line false face a gs f is defect = inr (is, defect)
 
-pub line_stands : (V : Type 0) (j : CJob) (text font : List ℕ) (a : Job) (face : Face) (d : DrawFault) → asked j text ≡ Ok a
+pub line_stands : (j : CJob) (text font : List ℕ) (a : Job) (face : Face) (d : DrawFault) → asked j text ≡ Ok a
     → job_opened j a.fit font ≡ Ok face
-    → TellsMadeDefects {V = V} (reads_glyphs face a.fit) (IsLineDefect face a (text_glyphs face.cmap a.text)) (Err d)
+    → IfSome (draw_font_fault d) (HasLayoutDefect face a (text_glyphs face.cmap a.text))
     → IfSome (call_font_fault (call_of_draw d)) (IsAskedDefect j text font)
-line_stands V j text font a face d is read tells =
-    if_some_more (call_font_fault (call_of_draw d)) (IsLineDefect face a (text_glyphs face.cmap a.text))
-    (IsAskedDefect j text font) (λ f h. rw (is, job_face_opened j a.fit font face read) (inr h))
-    (draw_tells _ d (told_if_made V (reads_glyphs face a.fit) _ d tells))
+line_stands j text font a face d is read tells =
+    let gs = text_glyphs face.cmap a.text in
+    if_some_more (call_font_fault (call_of_draw d)) (HasLayoutDefect face a gs) (IsAskedDefect j text font)
+    (λ f h. rw (is, job_face_opened j a.fit font face read) (inr (laid_line (lays_after_glyphs a.fit) face a gs f refl h)))
+    (draw_tells _ d tells)
 
 -- a tested size is not refused again
 pub not_refused : (size : ℕ) (j : JobFault) → IsSizeRefusal size j → 1 ≤ size → size ≤ size_limit → ⊥
@@ -102,8 +103,8 @@ serves_draw (draw.Font f) other = λ h. cc
 serves_draw (draw.Job j) other = λ h. cc
 serves_draw draw.Memory other = absurd other
 
--- without best and with nothing asked for no glyph is read
+-- without best and without an instance no glyph is read
 pub reads_none : (j : CJob) (how : Fit) (font : List ℕ) (face : Face) → is_bounded how ≡ false → job_instance j ≡ None
-    → job_opened j how font ≡ Ok face → reads_glyphs face how ≡ false
+    → job_opened j how font ≡ Ok face → ReadsNoGlyph face how
 reads_none j how font face free none read =
-    rw (free, finds_none font (job_opening j how) (job_instance j) face none (job_face_opened j how font face read)) refl
+    (free, finds_none font (job_opening j how) (job_instance j) face none (job_face_opened j how font face read))

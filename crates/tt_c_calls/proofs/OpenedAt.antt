@@ -61,7 +61,7 @@ opened_at file o i varied is =
       cmap = rw same alike.cmap;
     }
 
--- a face is in the directory that its reading gives, and has no instance before one is asked for
+-- a face is in the directory that its reading gives, and has no instance at first
 
 record IsIn (d : Directory) (face : Face) : Type 0 where
   directory : d ≡ face.directory
@@ -105,7 +105,7 @@ unfolding face_by
 instance_read file r face is =
     let was = came-through (directory_by file r) (λ d. face_at d r) face is in (face_in was.value r face was.rest).instance
 
--- with nothing asked for no advance has to be found
+-- without an instance no advance has to be found
 pub finds_none : (file : List ℕ) (o : Opening) (i : Option Asked) (face : Face) → i ≡ None → face_at_instance file o i ≡ Ok face
     → finds_advances face ≡ false
 unfolding face_at_instance ruled

@@ -80,7 +80,7 @@ pub returns-in_err-layout-clause-defects : goal.returns-in_err-layout-clause-def
 returns-in_err-layout-clause-defects c =
     let read = c.in_ok-face.ensures.exact in
     let p = err_from_is_err_and c.from_residual-in_err-layout.result c.from_residual-in_err-layout.ensures.1 in
-    rw (p.1, p.2) (line_stands _ c.args.request.now.job.now c.args.request.now.text.now c.args.request.now.font.now
+    rw (p.1, p.2) (line_stands c.args.request.now.job.now c.args.request.now.text.now c.args.request.now.font.now
     (job_view c.in_ok-asked.asked) c.in_ok-face.face c.in_err-layout.field-0.0 c.in_ok-asked.ensures.exact read
     (rw c.in_ok-sized.ensures.exact at c.in_err-layout.ensures.defects))
 
