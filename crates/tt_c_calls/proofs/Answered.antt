@@ -191,3 +191,7 @@ pub font_tells : (P : Fault → Type 0) (d : FontFault) → IfSome (font_fault d
     → IfSome (call_font_fault (call_of_font d)) P
 font_tells P (reading.Font f) stands = stands
 font_tells P reading.Memory stands = tt
+
+-- what is read is what the call gives
+pub font_drawn : {X : Type 0} (wanted : Result X Fault) (x : X) → wanted ≡ Ok x → as_call (as_font wanted) ≡ Ok x
+font_drawn wanted x is = rw is refl

@@ -20,3 +20,4 @@ pub mod OffsetLaws
 pub mod StrikeWanted
 pub mod Counted
 pub mod CharactersCounted
+pub mod MapAsked

@@ -1,0 +1,73 @@
+-- The map of a job's text is that of the font's tables.
+use Rattle.std.proofs.Common.{◌≡◌, ◌∙◌, ℕ, List, Ok, Err, inl, inr, refl}
+use Rattle.std.specs.Prelude.{IfSome}
+use Rattle.tt_core.specs.declared.fault.JobFault.{JobFault}
+use Rattle.tt_core.specs.declared.font_fault.FontFault.{FontFault}
+use Rattle.tt_core.specs.Outcomes.{◌>>=◌, font_fault}
+use Rattle.tt_face.specs.Faces.{Face}
+use Rattle.tt_fit.specs.declared.programs.Fit.{Fit}
+use Rattle.tt_strike.specs.Job.{text_tested}
+use Rattle.tt_strike.specs.Refusals.{as_font, job}
+use Rattle.tt_c_calls.specs.declared.asked.CJob.{CJob}
+use Rattle.tt_c_calls.specs.declared.fault.CallFault.{CallFault}
+use Rattle.tt_c_calls.specs.Asked.{IsPlainFaceDefect, job_fit, job_instance, plain_of, text_asked}
+use Rattle.tt_c_calls.specs.Fonts.{plain_opened}
+use Rattle.tt_c_calls.specs.Maps.{IsAdvancesDefect, IsMapDefect, map_wanted, text_mapped}
+use Rattle.tt_c_calls.specs.Refusals.{as_call, call_font_fault, call_of_font, call_refusal, refused}
+use Rattle.tt_c_calls.proofs.Answered.{by_opening, by_test, first_stops, font_tells}
+use Rattle.tt_c_calls.proofs.AskedTables.{plain_face_opened}
+use Rattle.tt_c_calls.proofs.Counted.{text_same}
+use Rattle.tt_c_calls.proofs.StrikeLines.{if_some_more}
+
+-- the request is refused before the font is looked at
+pub fit_refuses : (j : CJob) (text font : List ℕ) (e : CallFault)
+    → IfSome (call_refusal e) (λ why. job_fit j ≡ Err why) → IfSome (call_refusal e) (λ why. map_wanted j text font ≡ Err why)
+unfolding map_wanted
+fit_refuses j text font e is = first_stops (job_fit j) _ e is
+
+pub text_refuses : (j : CJob) (text font : List ℕ) (how : Fit) (e : CallFault) → job_fit j ≡ Ok how
+    → IfSome (call_refusal e) (λ why. text_asked text ≡ Err why)
+    → IfSome (call_refusal e) (λ why. map_wanted j text font ≡ Err why)
+unfolding map_wanted
+text_refuses j text font how e fits is = rw fits (first_stops (text_asked text) _ e is)
+
+pub long_refused : (j : CJob) (text font t : List ℕ) (how : Fit) (why : JobFault) → job_fit j ≡ Ok how
+    → text_asked text ≡ Ok t → text_tested t ≡ Err why → map_wanted j text font ≡ Err (refused (job why))
+unfolding map_wanted
+long_refused j text font t how why fits is fails = rw (fits, is) (by_test (text_tested t) _ why fails)
+
+-- and else by the font's tables
+of_tables : (j : CJob) (text font t : List ℕ) (how : Fit) → job_fit j ≡ Ok how → text_asked text ≡ Ok t
+    → text_tested t ≡ Ok tt
+    → map_wanted j text font ≡ (plain_opened j how font >>= λ face. as_call (as_font (text_mapped t face)))
+unfolding map_wanted
+of_tables j text font t how fits is passes =
+    rw (fits, is) (by_opening (text_tested t) (λ face. as_font (text_mapped t face)) (plain_of j how) (job_instance j) font
+    passes)
+
+pub face_refuses : (j : CJob) (text font t : List ℕ) (how : Fit) (e : CallFault) → job_fit j ≡ Ok how
+    → text_asked text ≡ Ok t → text_tested t ≡ Ok tt
+    → IfSome (call_refusal e) (λ why. plain_opened j how font ≡ Err why)
+    → IfSome (call_refusal e) (λ why. map_wanted j text font ≡ Err why)
+face_refuses j text font t how e fits is passes stops =
+    rw (of_tables j text font t how fits is passes) (first_stops (plain_opened j how font) _ e stops)
+
+pub by_opened : (j : CJob) (text font t : List ℕ) (how : Fit) (face : Face) → job_fit j ≡ Ok how
+    → text_asked text ≡ Ok t → text_tested t ≡ Ok tt → plain_opened j how font ≡ Ok face
+    → map_wanted j text font ≡ as_call (as_font (text_mapped t face))
+by_opened j text font t how face fits is passes read = of_tables j text font t how fits is passes ∙ rw read refl
+
+-- the defects
+
+pub face_stands : (j : CJob) (text font : List ℕ) (how : Fit) (e : CallFault) → job_fit j ≡ Ok how
+    → IfSome (call_font_fault e) (IsPlainFaceDefect j how font) → IfSome (call_font_fault e) (IsMapDefect j text font)
+face_stands j text font how e fits = if_some_more (call_font_fault e) _ _ (λ f h. rw fits (inl h))
+
+pub advances_stand : (j : CJob) (text font t : List ℕ) (how : Fit) (face : Face) (d : FontFault) → job_fit j ≡ Ok how
+    → text_asked text ≡ Ok t → plain_opened j how font ≡ Ok face → IfSome (font_fault d) (IsAdvancesDefect face t)
+    → IfSome (call_font_fault (call_of_font d)) (IsMapDefect j text font)
+advances_stand j text font t how face d fits is read stands =
+    let same : t ≡ text = text_same text t is in
+    if_some_more (call_font_fault (call_of_font d)) (IsAdvancesDefect face text) (IsMapDefect j text font)
+    (λ f h. rw (fits, plain_face_opened j how font face read) (inr h))
+    (font_tells _ d (rw same at stands))
