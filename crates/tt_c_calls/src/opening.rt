@@ -8,8 +8,8 @@ ghost use Rattle.tt_face.specs.Files.{IsFaceDefectBy};
 ghost use Rattle.tt_face.specs.Instance.{IsDefectAtInstance};
 ghost use Rattle.tt_face.specs.Views.{asked_view};
 ghost use Rattle.tt_strike.specs.Defects.{TellsDefects};
-ghost use Rattle.tt_c_calls.specs.Asked.{face_reading};
-ghost use Rattle.tt_c_calls.specs.Fonts.{CountsFaces, IsJobFaceDefect, IsPlainFaceDefect, OpensFont, count_wanted, face_wanted, job_opened, opened_wanted, plain_opened};
+ghost use Rattle.tt_c_calls.specs.Asked.{IsJobFaceDefect, IsPlainFaceDefect, face_reading};
+ghost use Rattle.tt_c_calls.specs.Fonts.{CountsFaces, OpensFont, count_wanted, face_wanted, job_opened, opened_wanted, plain_opened};
 ghost use Rattle.tt_c_calls.specs.declared.fault.CallFault.TheVariants as call;
 ghost use Rattle.tt_c_calls.specs.Refusals.{call_font_fault, call_refusal};
 

@@ -1,14 +1,13 @@
 //! The axes and the named instances of a face, in a caller's room. OpenType, "fvar: Font Variations Table".
 
 ghost use Rattle.std.specs.Prelude.{◌≡◌, ◌≢◌, ◌++◌, ◌≤◌, ◌<◌, IfOk, drop, length};
-ghost use Rattle.tt_axes.specs.Fvar.{axis_count, instance_count};
+ghost use Rattle.tt_axes.specs.Fvar.{instance_count};
 ghost use Rattle.tt_core.specs.Outcomes.{GivesUnless, IfTold};
 ghost use Rattle.tt_face.specs.Files.{IsFaceDefectBy};
-ghost use Rattle.tt_face.specs.Names.{name_of};
 ghost use Rattle.tt_c_calls.specs.Asked.{face_reading};
 ghost use Rattle.tt_c_calls.specs.Measures.{IsEntriesSmall};
 ghost use Rattle.tt_c_calls.specs.Refusals.{call_font_fault, call_refusal};
-ghost use Rattle.tt_c_calls.specs.VariationLists.{AreEntriesTold, TellsAxes, TellsInstances, axes_in, axes_told, axes_wanted, axis_told, instance_told, instances_in, instances_told, instances_wanted, places_told, told_name};
+ghost use Rattle.tt_c_calls.specs.VariationLists.{AreEntriesTold, TellsAxes, TellsInstances, axes_in, axes_wanted, axis_told, instance_told, instances_in, instances_wanted, places_told, told_name};
 
 use crate::answer::{CAnswer, DONE, ROOM, answer_of, sized};
 use crate::asked::face_reading;
