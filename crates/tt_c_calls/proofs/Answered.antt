@@ -8,7 +8,7 @@ use Rattle.tt_core.specs.Faults.{Fault}
 use Rattle.tt_core.specs.Limits.{font_limit}
 use Rattle.tt_core.specs.declared.font_fault.FontFault.{FontFault}
 use Rattle.tt_core.specs.declared.font_fault.FontFault.TheVariants as reading
-use Rattle.tt_core.specs.Outcomes.{◌>>=◌, draw_font_fault, font_fault}
+use Rattle.tt_core.specs.Outcomes.{◌>>=◌, draw_fault_of_font, draw_font_fault, font_fault}
 use Rattle.tt_render_run.specs.Outcome.{of_font}
 use Rattle.tt_core.specs.declared.draw_fault.DrawFault.{DrawFault}
 use Rattle.tt_core.specs.declared.draw_fault.DrawFault.TheVariants as draw
@@ -20,7 +20,7 @@ use Rattle.tt_c_calls.specs.declared.fault.CallFault.{CallFault}
 use Rattle.tt_c_calls.specs.declared.fault.CallFault.TheVariants as call
 use Rattle.tt_c_calls.specs.Answers.{DefectStands, TellsRefusal, call_answer}
 use Rattle.tt_c_calls.specs.Fonts.{face_wanted, opened_wanted}
-use Rattle.tt_c_calls.specs.Refusals.{Refusal, as_call, call_font_fault, call_of_draw, call_of_font, call_refusal, refused}
+use Rattle.tt_c_calls.specs.Refusals.{Refusal, as_call, call_font_fault, call_of_draw, call_refusal, refused}
 
 tells_memory : {X : Type 0} (wanted : Result X Refusal) → TellsRefusal wanted (call_answer call.Memory)
 tells_memory (Ok x) = refl
@@ -180,18 +180,18 @@ draw_tells P draw.Memory stands = tt
 pub drawn_too : {X : Type 0} (wanted : Result X Refused) (x : X) → wanted ≡ Ok x → as_call wanted ≡ Ok x
 drawn_too wanted x is = rw is refl
 
--- a fault of reading stops the call for the same reason
+-- a fault of reading stops what draws for the same reason
 pub font_refused : {X : Type 0} (wanted : Result X Fault) (d : FontFault)
     → IfSome (font_fault d) (λ why. wanted ≡ Err why)
-    → IfSome (call_refusal (call_of_font d)) (λ why. as_call (as_font wanted) ≡ Err why)
+    → IfSome (refusal (draw_fault_of_font d)) (λ why. as_font wanted ≡ Err why)
 font_refused wanted (reading.Font f) is = rw is refl
 font_refused wanted reading.Memory is = tt
 
 pub font_tells : (P : Fault → Type 0) (d : FontFault) → IfSome (font_fault d) P
-    → IfSome (call_font_fault (call_of_font d)) P
+    → IfSome (draw_font_fault (draw_fault_of_font d)) P
 font_tells P (reading.Font f) stands = stands
 font_tells P reading.Memory stands = tt
 
 -- what is read is what the call gives
-pub font_drawn : {X : Type 0} (wanted : Result X Fault) (x : X) → wanted ≡ Ok x → as_call (as_font wanted) ≡ Ok x
+pub font_drawn : {X : Type 0} (wanted : Result X Fault) (x : X) → wanted ≡ Ok x → as_font wanted ≡ Ok x
 font_drawn wanted x is = rw is refl

@@ -2,8 +2,8 @@
 use Rattle.std.proofs.Common.{◌≡◌, ◌∙◌, ℕ, List, Ok, Err, inl, inr, refl}
 use Rattle.std.specs.Prelude.{IfSome}
 use Rattle.tt_core.specs.declared.fault.JobFault.{JobFault}
-use Rattle.tt_core.specs.declared.font_fault.FontFault.{FontFault}
-use Rattle.tt_core.specs.Outcomes.{◌>>=◌, font_fault}
+use Rattle.tt_core.specs.declared.draw_fault.DrawFault.{DrawFault}
+use Rattle.tt_core.specs.Outcomes.{◌>>=◌, draw_font_fault}
 use Rattle.tt_face.specs.Faces.{Face}
 use Rattle.tt_fit.specs.declared.programs.Fit.{Fit}
 use Rattle.tt_strike.specs.Job.{text_tested}
@@ -13,8 +13,8 @@ use Rattle.tt_c_calls.specs.declared.fault.CallFault.{CallFault}
 use Rattle.tt_c_calls.specs.Asked.{IsPlainFaceDefect, job_fit, job_instance, plain_of, text_asked}
 use Rattle.tt_c_calls.specs.Fonts.{plain_opened}
 use Rattle.tt_c_calls.specs.Maps.{IsAdvancesDefect, IsMapDefect, map_wanted, text_mapped}
-use Rattle.tt_c_calls.specs.Refusals.{as_call, call_font_fault, call_of_font, call_refusal, refused}
-use Rattle.tt_c_calls.proofs.Answered.{by_opening, by_test, first_stops, font_tells}
+use Rattle.tt_c_calls.specs.Refusals.{as_call, call_font_fault, call_of_draw, call_refusal, refused}
+use Rattle.tt_c_calls.proofs.Answered.{by_opening, by_test, draw_tells, first_stops}
 use Rattle.tt_c_calls.proofs.AskedTables.{plain_face_opened}
 use Rattle.tt_c_calls.proofs.Counted.{text_same}
 use Rattle.tt_c_calls.proofs.StrikeLines.{if_some_more}
@@ -63,11 +63,12 @@ pub face_stands : (j : CJob) (text font : List ℕ) (how : Fit) (e : CallFault) 
     → IfSome (call_font_fault e) (IsPlainFaceDefect j how font) → IfSome (call_font_fault e) (IsMapDefect j text font)
 face_stands j text font how e fits = if_some_more (call_font_fault e) _ _ (λ f h. rw fits (inl h))
 
-pub advances_stand : (j : CJob) (text font t : List ℕ) (how : Fit) (face : Face) (d : FontFault) → job_fit j ≡ Ok how
-    → text_asked text ≡ Ok t → plain_opened j how font ≡ Ok face → IfSome (font_fault d) (IsAdvancesDefect face t)
-    → IfSome (call_font_fault (call_of_font d)) (IsMapDefect j text font)
+pub advances_stand : (j : CJob) (text font t : List ℕ) (how : Fit) (face : Face) (d : DrawFault) → job_fit j ≡ Ok how
+    → text_asked text ≡ Ok t → plain_opened j how font ≡ Ok face → IfSome (draw_font_fault d) (IsAdvancesDefect face t)
+    → IfSome (call_font_fault (call_of_draw d)) (IsMapDefect j text font)
 advances_stand j text font t how face d fits is read stands =
     let same : t ≡ text = text_same text t is in
-    if_some_more (call_font_fault (call_of_font d)) (IsAdvancesDefect face text) (IsMapDefect j text font)
+    if_some_more (call_font_fault (call_of_draw d)) (IsAdvancesDefect face text) (IsMapDefect j text font)
     (λ f h. rw (fits, plain_face_opened j how font face read) (inr h))
-    (font_tells _ d (rw same at stands))
+    (draw_tells _ d (rw same at stands))
+

@@ -4,8 +4,6 @@ use Rattle.tt_core.specs.Faults.{Fault}
 use Rattle.tt_strike.specs.Refusals.{Refused, font, job, large}
 use Rattle.tt_core.specs.declared.draw_fault.DrawFault.{DrawFault}
 use Rattle.tt_core.specs.declared.draw_fault.DrawFault.TheVariants as draw
-use Rattle.tt_core.specs.declared.font_fault.FontFault.{FontFault}
-use Rattle.tt_core.specs.declared.font_fault.FontFault.TheVariants as reading
 use Rattle.tt_c_calls.specs.declared.fault.CallFault.{CallFault}
 use Rattle.tt_c_calls.specs.declared.fault.CallFault.TheVariants as call
 
@@ -52,8 +50,3 @@ abbrev pub call_of_draw : DrawFault → CallFault
 call_of_draw (draw.Font f) = call.Font f
 call_of_draw (draw.Job j) = call.Job j
 call_of_draw draw.Memory = call.Memory
-
--- a fault of reading stops the call
-abbrev pub call_of_font : FontFault → CallFault
-call_of_font (reading.Font f) = call.Font f
-call_of_font reading.Memory = call.Memory

@@ -2,9 +2,9 @@
 
 ghost use Rattle.std.specs.Prelude.{◌≡◌};
 ghost use Rattle.tt_c_calls.specs.declared.fault.CallFault.TheVariants as call;
-ghost use Rattle.tt_c_calls.specs.Refusals.{call_of_draw, call_of_font};
+ghost use Rattle.tt_c_calls.specs.Refusals.{call_of_draw};
 
-use tt_core::{Fault, FontFault, JobFault};
+use tt_core::{Fault, JobFault};
 use tt_strike::DrawFault;
 
 /// Why a call has no answer.
@@ -41,17 +41,6 @@ impl From<JobFault> for CallFault {
 
     fn from(fault: JobFault) -> CallFault {
         CallFault::Job(fault)
-    }
-}
-
-impl From<FontFault> for CallFault {
-    ghost from_gives = { λ f e. e ≡ call_of_font f };
-
-    fn from(fault: FontFault) -> CallFault {
-        match fault {
-            FontFault::Font(fault) => CallFault::Font(fault),
-            FontFault::Memory => CallFault::Memory,
-        }
     }
 }
 

@@ -3,9 +3,10 @@
 ghost use Rattle.std.specs.Prelude.{◌≡◌, ◌≢◌, ◌<◌, ◌≤◌, All, IfOk, length, chars, map, zip};
 ghost use Rattle.tt_cmap.specs.Maps.{units_by};
 ghost use Rattle.tt_core.specs.Limits.{text_limit};
-ghost use Rattle.tt_core.specs.Outcomes.{FontGives, GivesUnless, IfTold, font_fault};
+ghost use Rattle.tt_core.specs.Outcomes.{FontGives, GivesUnless, IfTold, draw_font_fault, font_fault};
 ghost use Rattle.tt_line.specs.Layout.{text_glyphs};
 ghost use Rattle.tt_metrics.specs.Metrics.{advance_of, glyphs_of};
+ghost use Rattle.tt_strike.specs.Refusals.{as_font, refusal};
 ghost use Rattle.tt_c_calls.specs.Asked.{face_reading};
 ghost use Rattle.tt_c_calls.specs.Maps.{AreGlyphsTold, IsAdvancesDefect, IsMapDefect, MapsJob, MapsText, glyph_told, glyph_with, map_wanted, selector_told, text_mapped, text_told, units_found};
 ghost use Rattle.tt_c_calls.specs.Measures.{IsEntriesSmall};
@@ -19,7 +20,7 @@ use std::alloc::{AllocError, Global};
 use tt_advances::find_units;
 use tt_cmap::{CharacterMap, TextUnit};
 use tt_core::FontFault;
-use tt_strike::{Face, test_text};
+use tt_strike::{DrawFault, Face, test_text};
 
 /// A unit of a text in a font: a character, perhaps with a variation selector.
 #[repr(C)]
@@ -154,9 +155,9 @@ fn all_told(
 }
 
 /// The units of a text in a face, each with its glyph and the advance. Errors: those of `find_units`.
-fn text_mapped(alloc: Global, face: &Face, text: &str) -> Result<Vec<CGlyph>, FontFault>
-    ensures exact { FontGives (λ v. v.items) result (text_mapped text.now face.now) }
-    ensures defects { IfTold font_fault result (IsAdvancesDefect face.now text.now) }
+fn text_mapped(alloc: Global, face: &Face, text: &str) -> Result<Vec<CGlyph>, DrawFault>
+    ensures exact { GivesUnless refusal (λ v. v.items) result (as_font (text_mapped text.now face.now)) }
+    ensures defects { IfTold draw_font_fault result (IsAdvancesDefect face.now text.now) }
 {
     let found = units_found(alloc, face, text)?;
     Ok(all_told(alloc, face.cmap(), text, &found)?)

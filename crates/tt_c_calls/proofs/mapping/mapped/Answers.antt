@@ -1,6 +1,7 @@
 use Rattle.std.proofs.lemmas.Result.{err_from_is_err_and}
+use Rattle.tt_strike.specs.Refusals.{as_font}
 use Rattle.tt_c_calls.specs.Maps.{text_mapped}
-use Rattle.tt_c_calls.proofs.Answered.{font_drawn, font_refused}
+use Rattle.tt_c_calls.proofs.Answered.{draw_refused, drawn_too}
 use Rattle.tt_c_calls.proofs.LinesStopped.{fit_defect}
 use Rattle.tt_c_calls.proofs.MapAsked.{advances_stand, by_opened, face_refuses, face_stands, fit_refuses, long_refused, text_refuses}
 use Rattle.tt_c_calls.proofs.mapping.mapped.Goals as goal
@@ -57,7 +58,7 @@ returns-in_err-text_mapped-clause-exact c =
     let face = c.in_ok-face.face in
     let is = by_opened r.job.now r.text.now r.font.now t c.in_ok-fit.fit face c.in_ok-fit.ensures.exact c.in_ok-text.ensures.exact
     c.in_ok-test_text.ensures.exact c.in_ok-face.ensures.exact in
-    rw (p.1, p.2, is) (font_refused (text_mapped t face) c.in_err-text_mapped.field-0.0 c.in_err-text_mapped.ensures.exact)
+    rw (p.1, p.2, is) (draw_refused (as_font (text_mapped t face)) c.in_err-text_mapped.field-0.0 c.in_err-text_mapped.ensures.exact)
 
 pub returns-in_err-text_mapped-clause-defects : goal.returns-in_err-text_mapped-clause-defects
 returns-in_err-text_mapped-clause-defects c =
@@ -74,4 +75,4 @@ returns-clause-exact c =
     let face = c.in_ok-face.face in
     let is = by_opened r.job.now r.text.now r.font.now t c.in_ok-fit.fit face c.in_ok-fit.ensures.exact c.in_ok-text.ensures.exact
     c.in_ok-test_text.ensures.exact c.in_ok-face.ensures.exact in
-    rw is (font_drawn (text_mapped t face) _ c.in_ok-text_mapped.ensures.exact)
+    rw is (drawn_too (as_font (text_mapped t face)) _ c.in_ok-text_mapped.ensures.exact)
