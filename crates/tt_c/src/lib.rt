@@ -9,19 +9,21 @@ ghost use Rattle.tt_c_calls.specs.Fonts.{CountsFaces, OpensFont};
 ghost use Rattle.tt_c_calls.specs.Layouts.{LaysOutText, PlacesPens};
 ghost use Rattle.tt_c_calls.specs.LineRooms.{TellsRoom};
 ghost use Rattle.tt_c_calls.specs.Lines.{DrawsTexts};
-ghost use Rattle.tt_c_calls.specs.Maps.{MapsJob, MapsText};
+ghost use Rattle.tt_c_calls.specs.Maps.{MapsText};
 ghost use Rattle.tt_c_calls.specs.Measures.{MeasuresText, PlacesCharacters};
 ghost use Rattle.tt_c_calls.specs.Messages.{WritesMessage};
 ghost use Rattle.tt_c_calls.specs.Pictures.{DrawsBand};
 ghost use Rattle.tt_c_calls.specs.Strikes.{TellsStrike};
-ghost use Rattle.tt_c_calls.specs.VariationLists.{TellsAxes, TellsInstances};
+ghost use Rattle.tt_c_instances.specs.Maps.{MapsJob};
+ghost use Rattle.tt_c_instances.specs.VariationLists.{TellsAxes, TellsInstances};
 ghost use Rattle.tt_c_labels.specs.Labels.{DrawsLabel};
 
 use std::alloc::Global;
 use tt_c_calls::{
-    Band, CAnswer, CAxisRange, CBitmap, CCharacter, CFont, CGlyph, CInstance, CJob, CLayout, CLine,
-    CMeasure, CPen, CPicture, CStrike, TextRequest, Texts,
+    Band, CAnswer, CBitmap, CCharacter, CFont, CGlyph, CJob, CLayout, CLine, CMeasure, CPen,
+    CPicture, CStrike, TextRequest, Texts,
 };
+use tt_c_instances::{CAxisRange, CInstance};
 use tt_c_labels::{CLabel, CLabelJob, LabelRequest};
 
 /// The version of the library, as `TT_RENDER_VERSION` of the header: 10,000 times its first part, 100 times the second,
@@ -68,7 +70,7 @@ pub extern "C" fn tt_open_face(
     answer.status
 }
 
-/// `tt_c_calls::axes`.
+/// `tt_c_instances::axes`.
 #[unsafe(no_mangle)]
 pub extern "C" fn tt_axes(
     alloc: Global,
@@ -80,11 +82,11 @@ pub extern "C" fn tt_axes(
     ensures status { result ≡ answer.new.status }
     ensures tells { TellsAxes (face_reading face) font.now axes.old axes.new answer.new }
 {
-    *answer = tt_c_calls::axes(alloc, font, face, axes);
+    *answer = tt_c_instances::axes(alloc, font, face, axes);
     answer.status
 }
 
-/// `tt_c_calls::instances`.
+/// `tt_c_instances::instances`.
 #[unsafe(no_mangle)]
 pub extern "C" fn tt_instances(
     alloc: Global,
@@ -96,7 +98,7 @@ pub extern "C" fn tt_instances(
     ensures status { result ≡ answer.new.status }
     ensures tells { TellsInstances (face_reading face) font.now instances.old instances.new answer.new }
 {
-    *answer = tt_c_calls::instances(alloc, font, face, instances);
+    *answer = tt_c_instances::instances(alloc, font, face, instances);
     answer.status
 }
 
@@ -126,7 +128,7 @@ pub extern "C" fn tt_map_face(
     answer.status
 }
 
-/// `tt_c_calls::map_job`.
+/// `tt_c_instances::map_job`.
 #[unsafe(no_mangle)]
 pub extern "C" fn tt_map_job(
     alloc: Global,
@@ -140,7 +142,7 @@ pub extern "C" fn tt_map_job(
     ensures maps { MapsJob job.now text.now font.now room.old room.new answer.new }
 {
     let request = TextRequest { font, text, job };
-    *answer = tt_c_calls::map_job(alloc, &request, room);
+    *answer = tt_c_instances::map_job(alloc, &request, room);
     answer.status
 }
 

@@ -20,4 +20,3 @@ pub mod OffsetLaws
 pub mod StrikeWanted
 pub mod Counted
 pub mod CharactersCounted
-pub mod MapAsked

@@ -92,10 +92,10 @@ directory_opened file o i face is =
 -- the directory is in the file that was read
 pub file_opened : (file : List ℕ) (o : Opening) (i : Option Asked) (face : Face) → face_at_instance file o i ≡ Ok face
     → file ≡ face.directory.file
+unfolding directory_by
 file_opened file o i face is = in_file (directory_opened file o i face is)
   where
     in_file : directory_by file o.reading ≡ Ok face.directory → file ≡ face.directory.file
-    unfolding directory_by
     in_file read =
         let by_offset = came-through (offset_of file o.reading) _ face.directory read in
         ap (λ (e : Directory). e.file) (sym (directory-kept (directory_at file by_offset.value) face.directory by_offset.rest))

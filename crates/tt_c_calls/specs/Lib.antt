@@ -9,7 +9,6 @@ pub mod LineRooms
 pub mod Strikes
 pub mod Measures
 pub mod Maps
-pub mod VariationLists
 pub mod Bitmaps
 pub mod Offsets
 pub mod Layouts

@@ -92,7 +92,7 @@ impl CJob {
 
     /// The way to fit, once the number of values of axes is tested. Errors, the first of: UnknownFit, AxesMany.
     #[tactic(auto, unfolding(crate::specs::Asked::job_fit))]
-    pub(crate) fn tested_fit(&self) -> Result<Fit, CallFault>
+    pub fn tested_fit(&self) -> Result<Fit, CallFault>
         ensures exact { GivesUnless call_refusal (λ f. f) result (job_fit self.now) }
         ensures memory { IfErr result (λ f. f ≢ call.Memory) }
     {
@@ -132,7 +132,7 @@ fn face_named(number: u32) -> Option<u32>
 }
 
 /// The reading of a call that takes a face and no job.
-pub(crate) fn face_reading(number: u32) -> Reading
+pub fn face_reading(number: u32) -> Reading
     ensures { result ≡ face_reading number }
 {
     reading_asked(face_named(number), Reading::Strict)

@@ -40,7 +40,7 @@ pub struct CFont {
 /// The tables that every text needs, by a reading of a font file. Errors: FontLarge, and those of the directory and of
 /// its place, of head, maxp, hhea and hmtx, and of cmap.
 #[tactic(auto, unfolding(crate::specs::Fonts::face_wanted))]
-pub(crate) fn face_of<'a>(font: &'a [u8], reading: Reading) -> Result<Face<'a>, CallFault>
+pub fn face_of<'a>(font: &'a [u8], reading: Reading) -> Result<Face<'a>, CallFault>
     ensures exact { GivesUnless call_refusal (λ f. f) result (face_wanted reading font.now) }
     ensures defects { TellsDefects call_font_fault (IsFaceDefectBy font.now reading) result }
     ensures memory { IfErr result (λ f. f ≢ call.Memory) }
@@ -77,11 +77,7 @@ pub fn opened_face<'a>(
 }
 
 /// The tables of a job with a way to fit, with the rules of its lines. Errors: as `opened_face`.
-pub(crate) fn job_face<'a>(
-    font: &'a [u8],
-    job: &CJob,
-    fit: Fit,
-) -> Result<Face<'a>, CallFault>
+pub(crate) fn job_face<'a>(font: &'a [u8], job: &CJob, fit: Fit) -> Result<Face<'a>, CallFault>
     ensures exact { GivesUnless call_refusal (λ f. f) result (job_opened job.now fit font.now) }
     ensures defects { TellsDefects call_font_fault (IsJobFaceDefect job.now fit font.now) result }
     ensures memory { IfErr result (λ f. f ≢ call.Memory) }
@@ -91,11 +87,7 @@ pub(crate) fn job_face<'a>(
 }
 
 /// The tables of a job with a way to fit, with the plain rules of lines. Errors: as `opened_face`.
-pub(crate) fn plain_face<'a>(
-    font: &'a [u8],
-    job: &CJob,
-    fit: Fit,
-) -> Result<Face<'a>, CallFault>
+pub fn plain_face<'a>(font: &'a [u8], job: &CJob, fit: Fit) -> Result<Face<'a>, CallFault>
     ensures exact { GivesUnless call_refusal (λ f. f) result (plain_opened job.now fit font.now) }
     ensures defects { TellsDefects call_font_fault (IsPlainFaceDefect job.now fit font.now) result }
     ensures memory { IfErr result (λ f. f ≢ call.Memory) }

@@ -6,7 +6,9 @@ ghost use Rattle.tt_strike.specs.Job.{IsJob, job_view};
 ghost use Rattle.tt_c_calls.specs.Refusals.{call_font_fault, call_refusal};
 ghost use Rattle.tt_c_labels.specs.Requests.{LeavesRoom, align_asked, asked_view, box_asked, is_boxed, label_asked, label_instance, label_opening, leaves_room, space_asked};
 
-use tt_c_calls::{AXES_MOST, CAxis, CallFault, JobInstance, fit_of, heights_asked, test_axes, text_of};
+use tt_c_calls::{
+    AXES_MOST, CAxis, CallFault, JobInstance, fit_of, heights_asked, test_axes, text_of,
+};
 use tt_core::{HEIGHT_LIMIT, Reading, WIDTH_LIMIT};
 use tt_face::{LineRules, Opening};
 use tt_line::Align;

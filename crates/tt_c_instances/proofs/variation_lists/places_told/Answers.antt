@@ -6,7 +6,7 @@ use Rattle.std.specs.List.{range_with_len}
 use Rattle.tt_axes.specs.Instances.{place_in}
 use Rattle.tt_core.specs.Limits.{axis_limit}
 use Rattle.tt_c_calls.proofs.Entries.{one_more}
-use Rattle.tt_c_calls.proofs.variation_lists.places_told.Goals as goal
+use Rattle.tt_c_instances.proofs.variation_lists.places_told.Goals as goal
 
 pub loop-i-preserved : goal.loop-i-preserved
 loop-i-preserved c =

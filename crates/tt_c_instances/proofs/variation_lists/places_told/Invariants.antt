@@ -2,7 +2,7 @@ use Rattle.std.proofs.Common.{◌≡◌, ◌++◌, drop, map, pos, replicate}
 use Rattle.std.specs.List.{range_with_len}
 use Rattle.tt_axes.specs.Instances.{place_in}
 use Rattle.tt_core.specs.Limits.{axis_limit}
-use Rattle.tt_c_calls.proofs.variation_lists.places_told.Given as goal
+use Rattle.tt_c_instances.proofs.variation_lists.places_told.Given as goal
 
 -- the places so far, and then zeros
 abbrev pub invariant-loop-i : goal.invariant-loop-i

@@ -1,7 +1,7 @@
 use Rattle.std.proofs.Common.{◌≡◌, ◌≢◌, arith, refl}
-use Rattle.tt_c_calls.specs.Maps.{map_wanted}
+use Rattle.tt_c_instances.specs.Maps.{map_wanted}
 use Rattle.tt_c_calls.proofs.Answered.{fails, stands, tells, wants_none}
-use Rattle.tt_c_calls.proofs.mapping.map_job.Goals as goal
+use Rattle.tt_c_instances.proofs.mapping.map_job.Goals as goal
 
 pub returns-in-Ok : goal.returns-in-Ok
 returns-in-Ok c =

@@ -1,8 +1,8 @@
 use Rattle.std.proofs.Common.{◌≡◌, ◌≢◌, arith, refl}
 use Rattle.tt_c_calls.specs.Asked.{face_reading}
-use Rattle.tt_c_calls.specs.VariationLists.{instances_wanted}
+use Rattle.tt_c_instances.specs.VariationLists.{instances_wanted}
 use Rattle.tt_c_calls.proofs.Answered.{fails, stands, tells, wants_none}
-use Rattle.tt_c_calls.proofs.variation_lists.instances.Goals as goal
+use Rattle.tt_c_instances.proofs.variation_lists.instances.Goals as goal
 
 pub returns-in-Ok : goal.returns-in-Ok
 returns-in-Ok c =

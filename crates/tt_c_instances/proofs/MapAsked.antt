@@ -12,7 +12,7 @@ use Rattle.tt_c_calls.specs.declared.asked.CJob.{CJob}
 use Rattle.tt_c_calls.specs.declared.fault.CallFault.{CallFault}
 use Rattle.tt_c_calls.specs.Asked.{IsPlainFaceDefect, job_fit, job_instance, plain_of, text_asked}
 use Rattle.tt_c_calls.specs.Fonts.{plain_opened}
-use Rattle.tt_c_calls.specs.Maps.{IsAdvancesDefect, IsMapDefect, map_wanted, text_mapped}
+use Rattle.tt_c_instances.specs.Maps.{IsAdvancesDefect, IsMapDefect, map_wanted, text_mapped}
 use Rattle.tt_c_calls.specs.Refusals.{as_call, call_font_fault, call_of_draw, call_refusal, refused}
 use Rattle.tt_c_calls.proofs.Answered.{by_opening, by_test, draw_tells, first_stops}
 use Rattle.tt_c_calls.proofs.AskedTables.{plain_face_opened}
@@ -71,4 +71,3 @@ advances_stand j text font t how face d fits is read stands =
     if_some_more (call_font_fault (call_of_draw d)) (IsAdvancesDefect face text) (IsMapDefect j text font)
     (λ f h. rw (fits, plain_face_opened j how font face read) (inr h))
     (draw_tells _ d (rw same at stands))
-

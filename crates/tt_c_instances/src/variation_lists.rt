@@ -7,14 +7,11 @@ ghost use Rattle.tt_face.specs.Files.{IsFaceDefectBy};
 ghost use Rattle.tt_c_calls.specs.Asked.{face_reading};
 ghost use Rattle.tt_c_calls.specs.Measures.{IsEntriesSmall};
 ghost use Rattle.tt_c_calls.specs.Refusals.{call_font_fault, call_refusal};
-ghost use Rattle.tt_c_calls.specs.VariationLists.{AreEntriesTold, TellsAxes, TellsInstances, axes_in, axes_wanted, axis_told, instance_told, instances_in, instances_wanted, places_told, told_name};
+ghost use Rattle.tt_c_instances.specs.VariationLists.{AreEntriesTold, TellsAxes, TellsInstances, axes_in, axes_wanted, axis_told, instance_told, instances_in, instances_wanted, places_told, told_name};
 
-use crate::answer::{CAnswer, DONE, ROOM, answer_of, sized};
-use crate::asked::face_reading;
-use crate::fault::CallFault;
-use crate::opening::face_of;
 use std::alloc::{AllocError, Global};
 use tt_axes::{Fvar, VariationAxis};
+use tt_c_calls::{CAnswer, CallFault, DONE, ROOM, answer_of, face_of, face_reading, sized};
 use tt_core::AXIS_LIMIT;
 use tt_face::LISTED_INSTANCES;
 use tt_strike::Face;

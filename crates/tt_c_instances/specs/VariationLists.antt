@@ -16,8 +16,8 @@ use Rattle.tt_face.specs.Instance.{named_count}
 use Rattle.tt_face.specs.Listed.{variations_of}
 use Rattle.tt_face.specs.Names.{name_of}
 use Rattle.tt_c_calls.specs.declared.answer.CAnswer.{CAnswer}
-use Rattle.tt_c_calls.specs.declared.variation_lists.CAxisRange.{CAxisRange}
-use Rattle.tt_c_calls.specs.declared.variation_lists.CInstance.{CInstance}
+use Rattle.tt_c_instances.specs.declared.variation_lists.CAxisRange.{CAxisRange}
+use Rattle.tt_c_instances.specs.declared.variation_lists.CInstance.{CInstance}
 use Rattle.tt_c_calls.specs.Answers.{DefectStands, TellsRefusal, done_answer}
 use Rattle.tt_c_calls.specs.Fonts.{face_wanted}
 use Rattle.tt_c_calls.specs.Measures.{IsEntriesSmall}

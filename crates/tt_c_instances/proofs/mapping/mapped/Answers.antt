@@ -1,10 +1,10 @@
 use Rattle.std.proofs.lemmas.Result.{err_from_is_err_and}
 use Rattle.tt_strike.specs.Refusals.{as_font}
-use Rattle.tt_c_calls.specs.Maps.{text_mapped}
+use Rattle.tt_c_instances.specs.Maps.{text_mapped}
 use Rattle.tt_c_calls.proofs.Answered.{draw_refused, drawn_too}
 use Rattle.tt_c_calls.proofs.LinesStopped.{fit_defect}
-use Rattle.tt_c_calls.proofs.MapAsked.{advances_stand, by_opened, face_refuses, face_stands, fit_refuses, long_refused, text_refuses}
-use Rattle.tt_c_calls.proofs.mapping.mapped.Goals as goal
+use Rattle.tt_c_instances.proofs.MapAsked.{advances_stand, by_opened, face_refuses, face_stands, fit_refuses, long_refused, text_refuses}
+use Rattle.tt_c_instances.proofs.mapping.mapped.Goals as goal
 
 pub returns-in_err-fit-clause-exact : goal.returns-in_err-fit-clause-exact
 returns-in_err-fit-clause-exact c =
