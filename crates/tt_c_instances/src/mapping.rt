@@ -73,8 +73,8 @@ fn all_told(
     ensures { IfOk result (λ v. v.items ≡ map glyph_with (zip (units_by cmap.now (chars text.now)) found.now)) }
 {
     let mut told = Vec::new(alloc);
-    for (unit, found) in cmap.units(text).zip(found) {
-        told.push(glyph_with(unit, *found))?;
+    for (unit, glyph) in cmap.units(text).zip(found) {
+        told.push(glyph_with(unit, *glyph))?;
     }
     Ok(told)
 }
