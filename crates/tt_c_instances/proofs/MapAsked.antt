@@ -3,18 +3,20 @@ use Rattle.std.proofs.Common.{◌≡◌, ◌∙◌, ℕ, List, Ok, Err, inl, inr
 use Rattle.std.specs.Prelude.{IfSome}
 use Rattle.tt_core.specs.declared.fault.JobFault.{JobFault}
 use Rattle.tt_core.specs.declared.draw_fault.DrawFault.{DrawFault}
-use Rattle.tt_core.specs.Outcomes.{◌>>=◌, draw_font_fault}
+use Rattle.tt_core.specs.declared.font_fault.FontFault.{FontFault}
+use Rattle.tt_core.specs.Outcomes.{◌>>=◌, draw_fault_of_font, draw_font_fault, font_fault}
 use Rattle.tt_face.specs.Faces.{Face}
 use Rattle.tt_fit.specs.declared.programs.Fit.{Fit}
 use Rattle.tt_strike.specs.Job.{text_tested}
-use Rattle.tt_strike.specs.Refusals.{as_font, job}
+use Rattle.tt_line.specs.Layout.{text_glyphs}
+use Rattle.tt_strike.specs.Refusals.{as_font, job, refusal}
 use Rattle.tt_c_calls.specs.declared.asked.CJob.{CJob}
 use Rattle.tt_c_calls.specs.declared.fault.CallFault.{CallFault}
 use Rattle.tt_c_calls.specs.Asked.{IsPlainFaceDefect, job_fit, job_instance, plain_of, text_asked}
 use Rattle.tt_c_calls.specs.Fonts.{plain_opened}
-use Rattle.tt_c_instances.specs.Maps.{IsAdvancesDefect, IsMapDefect, map_wanted, text_mapped}
+use Rattle.tt_c_instances.specs.Maps.{IsAdvancesDefect, IsMapDefect, map_wanted, text_mapped, units_found}
 use Rattle.tt_c_calls.specs.Refusals.{as_call, call_font_fault, call_of_draw, call_refusal, refused}
-use Rattle.tt_c_calls.proofs.Answered.{by_opening, by_test, draw_tells, first_stops}
+use Rattle.tt_c_calls.proofs.Answered.{by_opening, by_test, draw_tells, first_stops, font_refused}
 use Rattle.tt_c_calls.proofs.AskedTables.{plain_face_opened}
 use Rattle.tt_c_calls.proofs.Counted.{text_same}
 use Rattle.tt_c_calls.proofs.StrikeLines.{if_some_more}
@@ -71,3 +73,10 @@ advances_stand j text font t how face d fits is read stands =
     if_some_more (call_font_fault (call_of_draw d)) (IsAdvancesDefect face text) (IsMapDefect j text font)
     (λ f h. rw (fits, plain_face_opened j how font face read) (inr h))
     (draw_tells _ d (rw same at stands))
+
+-- the glyphs that are not found stop the map
+pub found_stops : (face : Face) (t : List ℕ) (d : FontFault)
+    → IfSome (font_fault d) (λ f. units_found face (text_glyphs face.cmap t) ≡ Err f)
+    → IfSome (refusal (draw_fault_of_font d)) (λ why. as_font (text_mapped t face) ≡ Err why)
+found_stops face t d is =
+    font_refused (text_mapped t face) d (if_some_more (font_fault d) _ _ (λ f fails. rw fails refl) is)
