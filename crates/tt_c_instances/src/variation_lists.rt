@@ -36,7 +36,7 @@ pub struct CAxisRange {
 #[repr(C)]
 #[derive(Clone, Copy)]
 pub struct CInstance {
-    /// The number by which a job asks for the instance: k + 1 for instance k.
+    /// Its number in a job: k + 1 for instance k.
     pub instance: u32,
     /// Its place on each axis in 16.16, in the order of the axes; 0 past the last axis.
     pub place: [i32; AXIS_LIMIT],
