@@ -40,7 +40,7 @@ no_fit false false true d r is = cc
 no_fit false false false true r is = cc
 no_fit false false false false r is = cc
 
-no_axes : (b : Bool) (r : Refused) → (if b then Err axes_many else Ok tt) ≡ Err (refused r) → ⊥
+no_axes : (b : Bool) (r : Refused) → (if◌then◌else◌ {A = Result (Unit {0}) Refusal} b (Err axes_many) (Ok tt)) ≡ Err (refused r) → ⊥
 no_axes true r is = cc
 no_axes false r is = cc
 

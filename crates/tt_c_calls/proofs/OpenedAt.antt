@@ -1,5 +1,5 @@
 -- A face that is opened at an instance has the directory and the character map of the file's face.
-use Rattle.std.proofs.Common.{◌≡◌, ℕ, ℤ, Bool, true, false, List, Option, Some, None, Result, Ok, Err, ap, sym, if◌then◌else◌, length, refl}
+use Rattle.std.proofs.Common.{◌≡◌, ◌∙◌, ℕ, ℤ, Bool, true, false, List, Option, Some, None, Result, Ok, Err, ap, sym, if◌then◌else◌, length, refl}
 use Rattle.tt_axes.specs.Coordinates.{are_zero}
 use Rattle.tt_core.specs.Chains.{came-through}
 use Rattle.tt_core.proofs.Whole.{directory-kept}
@@ -57,8 +57,8 @@ opened_at file o i varied is =
     record {
       face = was.value;
       read = was.first;
-      directory = rw same alike.directory;
-      cmap = rw same alike.cmap;
+      directory = ap (λ (f : Face). f.directory) same ∙ alike.directory;
+      cmap = ap (λ (f : Face). f.cmap) same ∙ alike.cmap;
     }
 
 -- a face is in the directory that its reading gives, and has no instance at first

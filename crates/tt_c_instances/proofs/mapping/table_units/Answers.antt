@@ -19,9 +19,9 @@ loop-unit-preserved c =
     let units : c.advance.result ≡ advance_of face.metrics (glyph_of_unit face.cmap c.in-Some.unit) =
     rw (c.metrics.ensures, is) at c.advance.ensures in
     record {
-      glyphs = rw (c.in_ok-push.ensures.items, units, is, c.loop-unit.invariant.glyphs)
+      glyphs = rw (c.in_ok-push.ensures.items, c.from.ensures, units, is, c.loop-unit.invariant.glyphs)
           (sym (map_push told c.loop-unit.yielded c.in-Some.unit));
-      known = rw (c.in_ok-push.ensures.items, units, is)
+      known = rw (c.in_ok-push.ensures.items, c.from.ensures, units, is)
           (All-push (λ (g : ℕ × ℕ). g.0 < glyphs_of face.metrics) c.loop-unit.glyphs.items (told c.in-Some.unit)
           c.loop-unit.invariant.known within);
     }
@@ -30,7 +30,7 @@ pub returns-clause-exact : goal.returns-clause-exact
 returns-clause-exact c =
     let face = c.args.face.now in
     let us = units_by face.cmap (chars c.args.text.now) in
-    let e = YieldsList-end (YieldsList-from_first (λ (u : TextUnit). u) (λ (left : List TextUnit). left) us (rw c.cmap-cmap.ensures.exact refl))
+    let e = YieldsList-end (YieldsList-from_first (λ (u : TextUnit). u) (λ (left : List TextUnit). left) us (rw c.cmap-cmap.ensures.exact at c.units.ensures))
     c.loop-unit.yielded _ c.loop-unit.yielded_by _ _ c.in-None.is c.next.ensures.steps in
     let all : c.loop-unit.yielded ≡ us = sym (map-id c.loop-unit.yielded) ∙ e.0 in
     (rw all at c.loop-unit.invariant.glyphs)
