@@ -30,7 +30,7 @@ pub returns-clause-exact : goal.returns-clause-exact
 returns-clause-exact c =
     let face = c.args.face.now in
     let us = units_by face.cmap (chars c.args.text.now) in
-    let e = YieldsList-end (YieldsList-from_first (λ (u : TextUnit). u) (λ (left : List TextUnit). left) us (rw c.cmap-cmap.ensures.exact at c.units.ensures))
+    let e = YieldsList-end (YieldsList-from_first (λ (u : TextUnit). u) (λ (left : List TextUnit). left) us (rw c.cmap-cmap.ensures.exact at c.units-unit-items.ensures))
     c.loop-unit.yielded _ c.loop-unit.yielded_by _ _ c.in-None.is c.next.ensures.steps in
     let all : c.loop-unit.yielded ≡ us = sym (map-id c.loop-unit.yielded) ∙ e.0 in
     (rw all at c.loop-unit.invariant.glyphs)

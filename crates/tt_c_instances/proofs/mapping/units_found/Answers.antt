@@ -20,7 +20,7 @@ returns-clause-exact c =
           let same : map (λ (p : ℕ × ℕ). p.0) w.deref_mut.result.now ≡ gs = rw old (their_glyphs (advance_of face.metrics) gs) in
           let found : new ≡ map (λ g. (g, units_of face g)) gs = rw same at w.in_ok-find_units.ensures.units in
           let count : length new ≡ was.len =
-          ap length w.in_ok-find_units.ensures.units ∙ length-map ∙ length-map ∙ w.deref_mut.ensures.len in
+          rw (w.in_ok-find_units.ensures.units, length-map, length-map) w.deref_mut.ensures.len in
           rw (w.glyphs-is, with_items_is was new count) (all_units face gs new (rw same at w.in_ok-find_units.ensures.exact) found)
       | else-finds_advances w ↦
           rw w.glyphs-is (table_units face gs was.items (rw c.finds_advances.ensures at w.if-finds_advances.false) c.in_ok-glyphs.ensures.exact)
