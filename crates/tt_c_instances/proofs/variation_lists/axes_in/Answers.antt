@@ -13,8 +13,8 @@ loop-i-preserved c =
     let fvar = c.in-Some.fvar in
     let i = c.loop-i.i in
     let name : c.deref.result.now ≡ name_of (axis_of fvar i).name d =
-    rw c.axis-axis.ensures at (c.deref.ensures.value ∙ c.in_ok-name.ensures) in
+    rw c.axis-axis.ensures.exact at (c.deref.ensures.value ∙ c.in_ok-name.ensures) in
     let told : c.axis_told.result ≡ axis_at d fvar i =
-    c.axis_told.ensures ∙ ap₂ (λ (a : VariationAxis) (n : List ℕ). axis_told a n) c.axis-axis.ensures name in
+    c.axis_told.ensures ∙ ap₂ (λ (a : VariationAxis) (n : List ℕ). axis_told a n) c.axis-axis.ensures.exact name in
     rw (c.in_ok-push.ensures.items, told, c.loop-i.invariant)
     (sym (map-range_with_len_more (axis_at d fvar) 0 i i (omega arith)))
