@@ -1,4 +1,4 @@
-use Rattle.std.proofs.Common.{◌≡◌, ◌<◌, ◌∙◌, ℕ, List, chars, map, refl, sym}
+use Rattle.std.proofs.Common.{◌≡◌, ◌<◌, ◌∙◌, ℕ, List, chars, sym}
 use Rattle.std.proofs.lemmas.Iterator.Consumers.{YieldsList-from_first, YieldsList-end}
 use Rattle.std.proofs.lemmas.List.{map-id, map_push}
 use Rattle.std.proofs.lemmas.Simd.{map-map}
@@ -30,8 +30,10 @@ pub returns-clause-exact : goal.returns-clause-exact
 returns-clause-exact c =
     let face = c.args.face.now in
     let us = units_by face.cmap (chars c.args.text.now) in
-    let e = YieldsList-end (YieldsList-from_first (λ (u : TextUnit). u) (λ (left : List TextUnit). left) us (rw c.cmap-cmap.ensures.exact at c.units-unit-items.ensures))
-    c.loop-unit.yielded _ c.loop-unit.yielded_by _ _ c.in-None.is c.next.ensures.steps in
+    let from : c.units-unit-items.result ≡ us = rw c.cmap-cmap.ensures.exact at c.units-unit-items.ensures in
+    let units = YieldsList-from_first (λ (u : TextUnit). u) (λ (left : List TextUnit). left) us cc in
+    let e = YieldsList-end units c.loop-unit.yielded c.loop-unit.unit-iterator c.loop-unit.yielded_by c.next.result
+    c.next.new.self c.in-None.is c.next.ensures.steps in
     let all : c.loop-unit.yielded ≡ us = sym (map-id c.loop-unit.yielded) ∙ e.0 in
     (rw all at c.loop-unit.invariant.glyphs)
     ∙ sym (map-map (λ (g : ℕ). (g, advance_of face.metrics g)) (glyph_of_unit face.cmap) us)
