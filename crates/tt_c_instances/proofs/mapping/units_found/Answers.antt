@@ -1,4 +1,4 @@
-use Rattle.std.proofs.Common.{◌≡◌, ◌∙◌, ◌<◌, ℕ, List, Ok, ap, length, map}
+use Rattle.std.proofs.Common.{◌≡◌, ◌∙◌, ℕ, length, map}
 use Rattle.std.proofs.lemmas.List.{length-map, with_items_is}
 use Rattle.tt_advances.specs.Found.{units_of}
 use Rattle.tt_line.specs.Layout.{text_glyphs}

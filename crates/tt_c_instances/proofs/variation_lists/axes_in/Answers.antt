@@ -1,6 +1,5 @@
-use Rattle.std.proofs.Common.{◌≡◌, ◌∷◌, ◌++◌, ◌∙◌, [], ℕ, List, ap₂, arith, map, sym}
+use Rattle.std.proofs.Common.{◌≡◌, ◌∙◌, ℕ, List, ap₂, arith, sym}
 use Rattle.std.proofs.lemmas.List.FromFn.{map-range_with_len_more}
-use Rattle.std.specs.List.{range_with_len}
 use Rattle.tt_axes.specs.declared.axis.VariationAxis.{VariationAxis}
 use Rattle.tt_axes.specs.Axes.{axis_of}
 use Rattle.tt_face.specs.Names.{name_of}
