@@ -16,6 +16,7 @@ use Rattle.tt_strike.specs.Job.{Job}
 use Rattle.tt_strike.specs.Refusals.{as_font}
 use Rattle.tt_face.specs.Faces.{Face}
 use Rattle.tt_face.specs.Files.{face_with}
+use Rattle.tt_face.specs.Instance.{face_at_instance}
 use Rattle.tt_fit.specs.declared.programs.Fit.{Fit}
 use Rattle.tt_c_calls.specs.declared.answer.CAnswer.{CAnswer}
 use Rattle.tt_c_calls.specs.declared.asked.CJob.{CJob}

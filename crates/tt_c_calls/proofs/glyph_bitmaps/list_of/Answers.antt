@@ -22,7 +22,7 @@ returns-in_err-test_job-clause-exact c =
     let gs = c.args.glyphs.now in
     let how = c.in_ok-fit.fit in
     let fault = c.in_err-test_job.field-0.0 in
-    let fails = of_plain j.size how _ _ _ _ c.job.ensures.exact c.plain-2.ensures c.in_err-test_job.ensures.exact in
+    let fails = of_plain j.size how _ _ _ _ c.job.ensures.exact c.plain.ensures c.in_err-test_job.ensures.exact in
     rw (p.1, p.2) (list_refused j gs c.args.font.now how fault c.in_ok-fit.ensures.exact
     (size_refuses gs j.size fault (size_failed j.size how fault fails)))
 
@@ -33,7 +33,7 @@ returns-in_err-test_count-clause-exact c =
     let gs = c.args.glyphs.now in
     let how = c.in_ok-fit.fit in
     let fault = c.in_err-test_count.field-0.0 in
-    let passes = size_passed j.size how (of_plain j.size how _ _ _ _ c.job.ensures.exact c.plain-2.ensures c.in_ok-test_job.ensures.exact) in
+    let passes = size_passed j.size how (of_plain j.size how _ _ _ _ c.job.ensures.exact c.plain.ensures c.in_ok-test_job.ensures.exact) in
     rw (p.1, p.2) (list_refused j gs c.args.font.now how fault c.in_ok-fit.ensures.exact
     (count_tells gs j.size _ passes c.in_err-test_count.ensures.exact))
 
@@ -43,7 +43,7 @@ returns-in_err-face-clause-exact c =
     let j = c.args.job.now in
     let gs = c.args.glyphs.now in
     let how = c.in_ok-fit.fit in
-    let passes = size_passed j.size how (of_plain j.size how _ _ _ _ c.job.ensures.exact c.plain-2.ensures c.in_ok-test_job.ensures.exact) in
+    let passes = size_passed j.size how (of_plain j.size how _ _ _ _ c.job.ensures.exact c.plain.ensures c.in_ok-test_job.ensures.exact) in
     let limits = count_tells gs j.size _ passes c.in_ok-test_count.ensures.exact in
     rw (p.1, p.2) (face_refuses j gs c.args.font.now how c.in_err-face.field-0.0 c.in_ok-fit.ensures.exact limits
     c.in_err-face.ensures.exact)
@@ -60,7 +60,7 @@ returns-in_err-make-clause-exact c =
     let j = c.args.job.now in
     let gs = c.args.glyphs.now in
     let how = c.in_ok-fit.fit in
-    let passes = size_passed j.size how (of_plain j.size how _ _ _ _ c.job.ensures.exact c.plain-2.ensures c.in_ok-test_job.ensures.exact) in
+    let passes = size_passed j.size how (of_plain j.size how _ _ _ _ c.job.ensures.exact c.plain.ensures c.in_ok-test_job.ensures.exact) in
     let limits = count_tells gs j.size _ passes c.in_ok-test_count.ensures.exact in
     let face = c.in_ok-face.face in
     let is = by_opened j gs c.args.font.now how face c.in_ok-fit.ensures.exact limits
@@ -78,7 +78,7 @@ returns-clause-exact c =
     let j = c.args.job.now in
     let gs = c.args.glyphs.now in
     let how = c.in_ok-fit.fit in
-    let passes = size_passed j.size how (of_plain j.size how _ _ _ _ c.job.ensures.exact c.plain-2.ensures c.in_ok-test_job.ensures.exact) in
+    let passes = size_passed j.size how (of_plain j.size how _ _ _ _ c.job.ensures.exact c.plain.ensures c.in_ok-test_job.ensures.exact) in
     let limits = count_tells gs j.size _ passes c.in_ok-test_count.ensures.exact in
     let is = by_opened j gs c.args.font.now how c.in_ok-face.face c.in_ok-fit.ensures.exact limits
     c.in_ok-face.ensures.exact in

@@ -3,7 +3,7 @@ use Rattle.std.proofs.lemmas.Result.{err_from_is_err_and}
 use Rattle.tt_strike.specs.Job.{job_view}
 use Rattle.tt_strike.specs.Layouts.{pens_outcome}
 use Rattle.tt_c_calls.specs.Asked.{IsAskedDefect, job_opening}
-use Rattle.tt_c_calls.specs.Fonts.{opened_wanted}
+use Rattle.tt_c_calls.specs.Fonts.{job_opened, opened_wanted}
 use Rattle.tt_c_calls.proofs.Answered.{draw_refused, drawn_too, first_stops}
 use Rattle.tt_c_calls.proofs.AskedTables.{asked_tells, face_defects}
 use Rattle.tt_c_calls.proofs.Counted.{asked_parts, pens_counted, units_counted}

@@ -26,7 +26,7 @@ returns-in-Err-test_job-clause-draws c =
     let j = c.args.job.now in
     let font = c.args.font.now in
     let fault = c.in-Err-test_job.fault in
-    let fails = of_setting j c.in-Ok.fit _ _ _ _ c.job.ensures.exact c.plain.ensures c.in-Err-test_job.ensures.exact in
+    let fails = of_setting j c.in-Ok.fit _ _ _ _ c.job.ensures.exact c.plain-setting.ensures c.in-Err-test_job.ensures.exact in
     let is = job_refused j font c.in-Ok.fit fault c.in-Ok.ensures.exact fails in
     rw c.answer_of-in-Err-test_job.ensures (record {
       order = job_first (lines_wanted j font) _ _ fault is;
@@ -40,7 +40,7 @@ returns-in-Err-job_face-clause-draws c =
     let j = c.args.job.now in
     let font = c.args.font.now in
     let fault = c.in-Err-job_face.fault in
-    let passed = of_setting j c.in-Ok.fit _ _ _ _ c.job.ensures.exact c.plain.ensures c.in_default.ensures.exact in
+    let passed = of_setting j c.in-Ok.fit _ _ _ _ c.job.ensures.exact c.plain-setting.ensures c.in_default.ensures.exact in
     let is = face_refused j font c.in-Ok.fit fault c.in-Ok.ensures.exact passed
     c.in-Err-job_face.ensures.exact in
     rw c.answer_of-in-Err-job_face.ensures (record {
@@ -56,7 +56,7 @@ pub returns-then-lines-ends-clause-draws : goal.returns-then-lines-ends-clause-d
 returns-then-lines-ends-clause-draws c =
     let j = c.args.job.now in
     let font = c.args.font.now in
-    let passed = of_setting j c.in-Ok.fit _ _ _ _ c.job.ensures.exact c.plain.ensures c.in_default.ensures.exact in
+    let passed = of_setting j c.in-Ok.fit _ _ _ _ c.job.ensures.exact c.plain-setting.ensures c.in_default.ensures.exact in
     let face = c.in-Ok-job_face.face in
     let opened = lines_opened j font c.in-Ok.fit face c.in-Ok.ensures.exact passed
     c.in-Ok-job_face.ensures.exact in
@@ -71,7 +71,7 @@ pub returns-in-Err-new-clause-draws : goal.returns-in-Err-new-clause-draws
 returns-in-Err-new-clause-draws c =
     let j = c.args.job.now in
     let font = c.args.font.now in
-    let passed = of_setting j c.in-Ok.fit _ _ _ _ c.job.ensures.exact c.plain.ensures c.in_default.ensures.exact in
+    let passed = of_setting j c.in-Ok.fit _ _ _ _ c.job.ensures.exact c.plain-setting.ensures c.in_default.ensures.exact in
     let face = c.in-Ok-job_face.face in
     let opened = lines_opened j font c.in-Ok.fit face c.in-Ok.ensures.exact passed
     c.in-Ok-job_face.ensures.exact in
@@ -85,7 +85,7 @@ returns-in-Err-new-clause-draws c =
 
 pub draw_by-answer-requires : goal.draw_by-answer-requires
 draw_by-answer-requires c =
-    let passed = of_setting c.args.job.now c.in-Ok.fit _ _ _ _ c.job.ensures.exact c.plain.ensures c.in_default.ensures.exact in (
+    let passed = of_setting c.args.job.now c.in-Ok.fit _ _ _ _ c.job.ensures.exact c.plain-setting.ensures c.in_default.ensures.exact in (
       strike_for c.args.job.now c.args.font.now c.in-Ok.fit c.in-Ok-job_face.face c.in-Ok-new.strike c.args.keep
           c.in-Ok.ensures.exact passed c.in-Ok-job_face.ensures.exact
           c.in-Ok-new.ensures.exact,
@@ -99,7 +99,7 @@ returns-clause-draws c =
     let texts = c.args.texts.now.bytes.now in
     let ends = c.args.texts.now.ends.now in
     let own = c.draw_by-answer in
-    let passed = of_setting j c.in-Ok.fit _ _ _ _ c.job.ensures.exact c.plain.ensures c.in_default.ensures.exact in
+    let passed = of_setting j c.in-Ok.fit _ _ _ _ c.job.ensures.exact c.plain-setting.ensures c.in_default.ensures.exact in
     let face = c.in-Ok-job_face.face in
     let opened = lines_opened j font c.in-Ok.fit face c.in-Ok.ensures.exact passed
     c.in-Ok-job_face.ensures.exact in
@@ -131,7 +131,7 @@ returns-clause-cached c =
     let j = c.args.job.now in
     let font = c.args.font.now in
     let made = c.in-Ok-new.strike in
-    let passed = of_setting j c.in-Ok.fit _ _ _ _ c.job.ensures.exact c.plain.ensures c.in_default.ensures.exact in
+    let passed = of_setting j c.in-Ok.fit _ _ _ _ c.job.ensures.exact c.plain-setting.ensures c.in_default.ensures.exact in
     let face = c.in-Ok-job_face.face in
     let same : made.face.directory.file ≡ font = rw c.in-Ok-new.ensures.exact (file_is j c.in-Ok.fit font face c.in-Ok-job_face.ensures.exact) in
     let for : IsStrikeFor j made.face.directory.file made =

@@ -10,7 +10,7 @@ use Rattle.tt_strike.specs.declared.measuring.Measure.{Measure}
 use Rattle.tt_c_calls.specs.declared.asked.CJob.{CJob}
 use Rattle.tt_c_calls.specs.declared.fault.CallFault.{CallFault}
 use Rattle.tt_c_calls.specs.Asked.{IsAskedDefect, asked, grows, job_opening}
-use Rattle.tt_c_calls.specs.Fonts.{opened_wanted}
+use Rattle.tt_c_calls.specs.Fonts.{job_opened, opened_wanted}
 use Rattle.tt_c_calls.specs.Measures.{IsMeasureOf, measure_wanted}
 use Rattle.tt_render_settings.specs.Products.{measure_by}
 use Rattle.tt_c_calls.specs.Refusals.{as_call, call_of_draw, call_refusal}

@@ -8,7 +8,7 @@ use Rattle.tt_face.specs.Faces.{Face}
 use Rattle.tt_c_calls.specs.declared.asked.CJob.{CJob}
 use Rattle.tt_c_calls.specs.declared.fault.CallFault.{CallFault}
 use Rattle.tt_c_calls.specs.Asked.{IsAskedDefect, asked, grows, job_opening}
-use Rattle.tt_c_calls.specs.Fonts.{opened_wanted}
+use Rattle.tt_c_calls.specs.Fonts.{job_opened, opened_wanted}
 use Rattle.tt_c_calls.specs.Pictures.{IsPictureOf, picture_wanted}
 use Rattle.tt_render_settings.specs.Products.{IsMadeBy, picture_by}
 use Rattle.tt_c_calls.specs.Refusals.{as_call, call_of_draw, call_refusal}

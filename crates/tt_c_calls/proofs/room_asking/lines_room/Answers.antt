@@ -20,7 +20,7 @@ returns-in-Err-test_job c =
     let j = c.args.job.now in
     let font = c.args.font.now in
     let fault = c.in-Err-test_job.fault in
-    let fails = of_setting j c.in-Ok.fit _ _ _ _ c.job.ensures.exact c.plain.ensures c.in-Err-test_job.ensures.exact in
+    let fails = of_setting j c.in-Ok.fit _ _ _ _ c.job.ensures.exact c.plain-setting.ensures c.in-Err-test_job.ensures.exact in
     let is = job_refused j font c.in-Ok.fit fault c.in-Ok.ensures.exact fails in
     rw c.answer_of-in-Err-test_job.ensures (room_refused j font _ _ (call.Job fault) is tt)
 
@@ -29,7 +29,7 @@ returns-in-Err-job_face c =
     let j = c.args.job.now in
     let font = c.args.font.now in
     let fault = c.in-Err-job_face.fault in
-    let passed = of_setting j c.in-Ok.fit _ _ _ _ c.job.ensures.exact c.plain.ensures c.in_default.ensures.exact in
+    let passed = of_setting j c.in-Ok.fit _ _ _ _ c.job.ensures.exact c.plain-setting.ensures c.in_default.ensures.exact in
     let is = face_refused j font c.in-Ok.fit fault c.in-Ok.ensures.exact passed
     c.in-Err-job_face.ensures.exact in
     rw c.answer_of-in-Err-job_face.ensures (room_refused j font _ _ fault is
@@ -39,13 +39,13 @@ returns-in-Err-job_face c =
 pub returns-in-Err-new : goal.returns-in-Err-new
 returns-in-Err-new c =
     let j = c.args.job.now in
-    let passed = of_setting j c.in-Ok.fit _ _ _ _ c.job.ensures.exact c.plain.ensures c.in_default.ensures.exact in
+    let passed = of_setting j c.in-Ok.fit _ _ _ _ c.job.ensures.exact c.plain-setting.ensures c.in_default.ensures.exact in
     let memory = strike_refused j c.in-Ok.fit c.in-Err-new.fault passed c.in-Err-new.ensures.tested in
     rw (c.answer_of-in-Err-new.ensures, c.from.ensures, memory) (room_refused j c.args.font.now _ _ call.Memory tt tt)
 
 pub room_by-requires : goal.room_by-requires
 room_by-requires c =
-    let passed = of_setting c.args.job.now c.in-Ok.fit _ _ _ _ c.job.ensures.exact c.plain.ensures c.in_default.ensures.exact in
+    let passed = of_setting c.args.job.now c.in-Ok.fit _ _ _ _ c.job.ensures.exact c.plain-setting.ensures c.in_default.ensures.exact in
     strike_for c.args.job.now c.args.font.now c.in-Ok.fit c.in-Ok-job_face.face c.in-Ok-new.strike c.args.keep
     c.in-Ok.ensures.exact passed c.in-Ok-job_face.ensures.exact
     c.in-Ok-new.ensures.exact
