@@ -21,7 +21,7 @@ use Rattle.tt_strike.proofs.Characters.{length-characters}
 use Rattle.tt_strike.proofs.Placed.{of-job, placed_glyphs, placed_of}
 use Rattle.tt_c_calls.specs.declared.asked.CJob.{CJob}
 use Rattle.tt_c_calls.specs.Asked.{asked, fit_asked, grows, job_fit, job_opening, text_asked}
-use Rattle.tt_c_calls.specs.Fonts.{opened_wanted}
+use Rattle.tt_c_calls.specs.Fonts.{job_opened, opened_wanted}
 use Rattle.tt_c_calls.specs.Measures.{measure_wanted}
 use Rattle.tt_c_calls.specs.Offsets.{offsets_asked}
 use Rattle.tt_c_calls.specs.Pictures.{made_for, made_of}

@@ -22,7 +22,7 @@ use Rattle.tt_c_calls.specs.declared.answer.CAnswer.{CAnswer}
 use Rattle.tt_c_calls.specs.declared.asked.CJob.{CJob}
 use Rattle.tt_c_calls.specs.declared.line_drawing.CLine.{CLine}
 use Rattle.tt_c_calls.specs.declared.pictures.CPicture.{CPicture}
-use Rattle.tt_c_calls.specs.Asked.{asked, grows, job_opening}
+use Rattle.tt_c_calls.specs.Asked.{asked, grows, job_instance, job_opening}
 use Rattle.tt_c_calls.specs.Answers.{job_answer}
 use Rattle.tt_c_calls.specs.Refusals.{Refusal, as_call}
 use Rattle.tt_c_calls.specs.Lines.{AreAffordable, cost_asked, cost_taken, first_taken, lines_taken, AreEnds, AreLinesDrawn, DrawsLines, EndsWith, IsLineDrawn, IsLineWritten, IsShown, IsTextStopped, line_between, line_bytes, line_taken, lines_by, lines_bytes, start_of, stopped_answer}

@@ -15,7 +15,7 @@ use Rattle.tt_c_calls.specs.Measures.{IsMeasureOf, measure_wanted}
 use Rattle.tt_render_settings.specs.Products.{measure_by}
 use Rattle.tt_c_calls.specs.Refusals.{as_call, call_of_draw, call_refusal}
 use Rattle.tt_c_calls.proofs.Answered.{draw_refused, draw_tells, drawn_too, first_stops}
-use Rattle.tt_c_calls.proofs.AskedTables.{asked_defects, asked_tells, face_defects, face_opened, of_tables}
+use Rattle.tt_c_calls.proofs.AskedTables.{asked_defects, asked_tells, face_defects, face_opened, job_face_opened, of_tables}
 use Rattle.tt_c_calls.proofs.measuring.measured.Goals as goal
 
 by_tables : (j : CJob) (text font : List ℕ) (a : Job) → asked j text ≡ Ok a → tested a ≡ Ok tt
