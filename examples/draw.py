@@ -6,10 +6,15 @@ import ctypes
 import sys
 
 
+class Axis(ctypes.Structure):
+    _fields_ = [("tag", ctypes.c_uint32), ("value", ctypes.c_int32)]
+
+
 class Job(ctypes.Structure):
     _fields_ = [
         (name, ctypes.c_uint32) for name in ("size", "margin", "fit", "grow", "face", "kern", "rounded", "blank")
     ]
+    _fields_ += [("instance", ctypes.c_uint32), ("axes", ctypes.c_uint32), ("axis", Axis * 16)]
 
 
 class Picture(ctypes.Structure):

@@ -46,6 +46,22 @@ static uint32_t ask_map(const struct question *q, struct room room, void *told, 
   return tt_map(FONT, TEXT, (struct tt_glyph *)room.at, room.size / sizeof(struct tt_glyph), answer);
 }
 
+static uint32_t ask_map_job(const struct question *q, struct room room, void *told, struct tt_answer *answer) {
+  (void)told;
+  return tt_map_job(FONT, TEXT, JOB, (struct tt_glyph *)room.at, room.size / sizeof(struct tt_glyph), answer);
+}
+
+static uint32_t ask_axes(const struct question *q, struct room room, void *told, struct tt_answer *answer) {
+  (void)told;
+  return tt_axes(FONT, face_of(JOB), (struct tt_axis_range *)room.at, room.size / sizeof(struct tt_axis_range), answer);
+}
+
+static uint32_t ask_instances(const struct question *q, struct room room, void *told, struct tt_answer *answer) {
+  (void)told;
+  return tt_instances(FONT, face_of(JOB), (struct tt_instance *)room.at, room.size / sizeof(struct tt_instance),
+                      answer);
+}
+
 static uint32_t ask_measure(const struct question *q, struct room room, void *told, struct tt_answer *answer) {
   (void)room;
   return tt_measure(FONT, TEXT, JOB, told, answer);
@@ -67,17 +83,20 @@ static uint32_t ask_band(const struct question *q, struct room room, void *told,
 
 static uint32_t ask_label(const struct question *q, struct room room, void *told, struct tt_answer *answer) {
   const struct tt_job *job = JOB;
-  struct room label = held(&(struct tt_label_job){.size = job->size,
-                                                  .margin = job->margin,
-                                                  .fit = job->fit,
-                                                  .face = job->face,
-                                                  .kern = job->kern,
-                                                  .rounded = job->rounded,
-                                                  .align = q->align,
-                                                  .width = q->width,
-                                                  .box_width = q->box_width,
-                                                  .box_height = q->box_height},
-                           sizeof(struct tt_label_job));
+  struct tt_label_job given = {.size = job->size,
+                               .margin = job->margin,
+                               .fit = job->fit,
+                               .face = job->face,
+                               .kern = job->kern,
+                               .rounded = job->rounded,
+                               .align = q->align,
+                               .width = q->width,
+                               .box_width = q->box_width,
+                               .box_height = q->box_height,
+                               .instance = job->instance,
+                               .axes = job->axes};
+  memcpy(given.axis, job->axis, sizeof given.axis);
+  struct room label = held(&given, sizeof given);
   uint32_t status = tt_label(FONT, TEXT, (const struct tt_label_job *)label.at, room.at, room.size, told, answer);
   give_up(label);
   return status;
@@ -115,6 +134,9 @@ const struct call opens = {"tt_open", ask_open, 0, sizeof(struct tt_font), false
 const struct call opens_face = {"tt_open_face", ask_open_face, 0, sizeof(struct tt_font), false, false, 0};
 const struct call maps = {"tt_map", ask_map, sizeof(struct tt_glyph), 0, true, false, 0};
 const struct call maps_face = {"tt_map_face", ask_map_face, sizeof(struct tt_glyph), 0, true, false, 0};
+const struct call maps_job = {"tt_map_job", ask_map_job, sizeof(struct tt_glyph), 0, true, false, 2};
+const struct call axes = {"tt_axes", ask_axes, sizeof(struct tt_axis_range), 0, false, false, 0};
+const struct call instances = {"tt_instances", ask_instances, sizeof(struct tt_instance), 0, false, false, 0};
 const struct call draws = {"tt_draw", ask_draw, 1, sizeof(struct tt_picture), true, true, 4};
 const struct call draws_band = {"tt_draw_band", ask_band, 1, sizeof(struct tt_picture), true, true, 4};
 const struct call labels = {"tt_label", ask_label, 1, sizeof(struct tt_label), true, true, 4};
@@ -126,8 +148,9 @@ const struct call pens = {"tt_pens", ask_pens, sizeof(struct tt_pen), 0, true, t
 const struct call glyphs = {"tt_glyphs", ask_glyphs, 1, LIST * sizeof(struct tt_bitmap), false, true, 4};
 const struct call messages = {"tt_message", ask_message, 1, 0, false, false, 1};
 
-const struct call *const every_call[] = {&opens,   &maps,    &draws, &draws_band, &labels,   &measures, &characters,
-                                         &strikes, &layouts, &pens,  &glyphs,     &messages, NULL};
+const struct call *const every_call[] = {
+    &opens,    &maps,       &maps_job, &axes,    &instances, &draws,  &draws_band, &labels,
+    &measures, &characters, &strikes,  &layouts, &pens,      &glyphs, &messages,   NULL};
 
 bool are_alike(const struct tt_answer *one, const struct tt_answer *other) {
   return memcmp(one, other, sizeof *one) == 0;

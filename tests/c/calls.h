@@ -23,12 +23,13 @@ struct call {
   uint32_t (*ask)(const struct question *q, struct room room, void *told, struct tt_answer *answer);
   size_t entry; /* the bytes of an entry of its room; 0: it has no room */
   size_t told;  /* the bytes of what it tells beside the answer */
-  bool has_text, has_job; /* whether it is given a text, and a job */
-  long blocks;            /* it asks for so many blocks at the least; 0: it takes no memory, or only with TT_BEST */
+  bool has_text, has_job; /* whether it is given a text, and a job whose size and margin it tests */
+  long blocks;            /* it asks for so many blocks at the least; 0: it takes no memory, or only with TT_BEST, or of
+                             a variable font */
 };
 
-extern const struct call opens, opens_face, maps, maps_face, measures, characters, strikes, layouts, pens, glyphs,
-    draws, draws_band, labels, messages;
+extern const struct call opens, opens_face, maps, maps_face, maps_job, axes, instances, measures, characters, strikes,
+    layouts, pens, glyphs, draws, draws_band, labels, messages;
 
 /* Each of these, and then NULL; tt_draw_lines is in lines.h. */
 extern const struct call *const every_call[];

@@ -1,6 +1,6 @@
 /* Tries what no font of the other questions shows: NULL where there are 0 bytes, numbers out of range, texts that are
- * no UTF-8, lines whose ends are wrong, the largest font. edges FONT TEXT: of the text, in hexadecimal, each character
- * has to have a glyph in the font.
+ * no UTF-8, lines whose ends are wrong, the largest font, axes and instances. edges FONT TEXT VARIABLE: of the text, in
+ * hexadecimal, each character has to have a glyph in the font; VARIABLE is the font of variable.txt.
  */
 #define _DEFAULT_SOURCE
 #include <inttypes.h>
@@ -9,6 +9,7 @@
 #include <string.h>
 #include <sys/mman.h>
 
+#include "blocks.h"
 #include "calls.h"
 #include "lines.h"
 
@@ -217,8 +218,21 @@ static void try_labels(void) {
       {"a box without a row", font, one, {.size = 16, .box_width = UINT32_MAX}, TT_JOB, 70},
       {"a box of 16,385 columns", font, one, {.size = 16, .box_width = 16385, .box_height = 9}, TT_JOB, 70},
       {"a box of 4,097 rows", font, one, {.size = 16, .box_width = 9, .box_height = 4097}, TT_JOB, 70},
-      {"a box as wide as both margins", font, one, {16, 9, TT_BEST, 0, 0, 0, 0, 0, 18, 50}, TT_JOB, 70},
-      {"a box as high as both margins", font, one, {16, 9, TT_BEST, 0, 0, 0, 0, 0, 50, 18}, TT_JOB, 70},
+      {"a box as wide as both margins",
+       font,
+       one,
+       {.size = 16, .margin = 9, .fit = TT_BEST, .box_width = 18, .box_height = 50},
+       TT_JOB,
+       70},
+      {"a box as high as both margins",
+       font,
+       one,
+       {.size = 16, .margin = 9, .fit = TT_BEST, .box_width = 50, .box_height = 18},
+       TT_JOB,
+       70},
+      {"a label's 17 values of axes, and an alignment of 3", none, wrong, {.align = 3, .axes = 17}, TT_JOB, 73},
+      {"a label's fit of 4, and 17 values of axes", font, one, {.size = 16, .fit = 4, .axes = 17}, TT_JOB, 66},
+      {"a label's instance of a font without one", font, one, {.size = 16, .instance = 1}, TT_FONT, 3},
       {"a label's margin of 65, and a box", font, one, {.size = 16, .margin = 65, .box_width = 1}, TT_JOB, 64},
       {"a box without a size", font, one, {.box_width = 50, .box_height = 50}, TT_JOB, 60},
       {"a box for 4,097 characters", none, large, {.size = 16, .box_width = 50, .box_height = 50}, TT_JOB, 61},
@@ -372,6 +386,113 @@ static void try_all_ends(void) {
   give_up(text);
 }
 
+/* More values of axes than a job has are refused by every call with a job, before all of the font and the text. */
+static void try_many_axes(struct room text) {
+  struct room none = held(NULL, 0), wrong = text_of("\xff");
+  struct tt_job many = {.size = 16, .axes = 17}, most = {.size = 16, .axes = UINT32_MAX};
+  all_refuse("17 values of axes", none, wrong, many, false, TT_JOB, 73);
+  all_refuse("the largest number of values of axes", font, text, most, false, TT_JOB, 73);
+  const struct call *const others[] = {&maps_job, &strikes, &glyphs};
+  for (size_t i = 0; i < sizeof others / sizeof *others; i++) {
+    struct tt_answer answer = answer_to(others[i], none, wrong, many);
+    expect(answer.status == TT_JOB && answer.number == 73, "%s: status %u, number %u", others[i]->name, answer.status,
+           answer.number);
+  }
+  many.fit = 4;
+  all_refuse("17 values of axes, and a way to fit of 4", font, text, many, false, TT_JOB, 66);
+  give_up(none);
+  give_up(wrong);
+}
+
+/* The rows of a text's picture, and their number. */
+static size_t rows_of(struct room with, struct room text, const struct tt_job *job, uint8_t *rows, size_t room) {
+  struct tt_picture told;
+  struct tt_answer answer;
+  uint32_t status = tt_draw(with.at, with.size, text.at, text.size, job, rows, room, &told, &answer);
+  expect(status == TT_DONE, "tt_draw: status %u, number %u", status, answer.number);
+  return status == TT_DONE ? answer.bytes : 0;
+}
+
+/* What tt_axes and tt_instances tell of the font of variable.txt. */
+static void try_lists_of_axes(struct room variable) {
+  static const struct {
+    int32_t place;
+    const char *name;
+  } wanted[] = {{100, "Thin"}, {650, "Medium"}, {900, "Black & wide"}, {900, "Medium"}};
+  struct tt_axis_range told[2];
+  struct tt_instance named[5];
+  struct tt_answer answer;
+  expect(tt_axes(variable.at, variable.size, 1, told, 2, &answer) == TT_DONE && answer.count == 1 &&
+             told[0].tag == TT_TAG('w', 'g', 'h', 't') && told[0].least == 100 << 16 &&
+             told[0].default_value == 400 << 16 && told[0].greatest == 900 << 16 && told[0].name[67] == 0,
+         "tt_axes: status %u", answer.status);
+  expect(tt_instances(variable.at, variable.size, 0, named, 5, &answer) == TT_DONE && answer.count == 4,
+         "tt_instances: status %u", answer.status);
+  for (uint32_t k = 0; k < 4; k++) {
+    expect(named[k].instance == k + 1 && named[k].place[0] == wanted[k].place << 16 && named[k].place[1] == 0 &&
+               strcmp((const char *)named[k].name, wanted[k].name) == 0,
+           "tt_instances: instance %u is told as %u", k, named[k].instance);
+  }
+  expect(tt_axes(variable.at, variable.size, 2, told, 2, &answer) == TT_FONT && answer.number == 25,
+         "tt_axes, of another face: status %u", answer.status);
+  verdict("axes and named instances");
+  expect(tt_axes(font.at, font.size, 0, NULL, 0, &answer) == TT_DONE && answer.count == 0, "tt_axes: status %u",
+         answer.status);
+  expect(tt_instances(font.at, font.size, 0, NULL, 0, &answer) == TT_DONE && answer.count == 0,
+         "tt_instances: status %u", answer.status);
+  verdict("no axis of a font without the table");
+}
+
+/* Calls about a variable font, in all rooms, and with each block refused. */
+static void try_rooms_of_axes(struct room variable, struct room text) {
+  const struct call *const calls[] = {&axes, &instances, &maps_job, &draws, &layouts, &strikes};
+  for (size_t i = 0; i < sizeof calls / sizeof *calls; i++) {
+    struct question q = question_of(variable, text, (struct tt_job){.size = 16, .fit = TT_NONE, .instance = 2});
+    forget(tried(calls[i], &q));
+    long nth = 0;
+    for (struct tt_answer answer = {.status = TT_MEMORY}; answer.status == TT_MEMORY; nth++) {
+      blocks_granted = nth;
+      struct outcome it = asked(calls[i], &q, 1 << 16);
+      blocks_granted = -1;
+      answer = it.answer;
+      expect(answer.status == TT_MEMORY || answer.status == TT_DONE, "%s: status %u without block %ld", calls[i]->name,
+             answer.status, nth);
+      forget(it);
+    }
+    expect(nth > 1 || calls[i] == &strikes, "%s took no memory", calls[i]->name);
+    give_up_question(q);
+    verdict("%s of a variable font, with each of %ld blocks refused", calls[i]->name, nth - 1);
+  }
+}
+
+/* A named instance is its places, of which the last value counts; and the default is the font without an instance. */
+static void try_instances(struct room variable, struct room text) {
+  const struct tt_axis weights[] = {{TT_TAG('w', 'g', 'h', 't'), 900 << 16}, {TT_TAG('w', 'g', 'h', 't'), 650 << 16}};
+  static uint8_t by_number[4096], by_place[4096];
+  for (uint32_t fit = TT_FULL; fit <= TT_BEST; fit++) {
+    struct tt_job number = {.size = 48, .fit = fit, .instance = 2}, place = {.size = 48, .fit = fit, .axes = 2},
+                  plain = {.size = 48, .fit = fit}, default_place = {.size = 48, .fit = fit, .axes = 1};
+    memcpy(place.axis, weights, sizeof weights);
+    size_t bytes = rows_of(variable, text, &number, by_number, sizeof by_number);
+    expect(bytes == rows_of(variable, text, &place, by_place, sizeof by_place) &&
+               memcmp(by_number, by_place, bytes) == 0,
+           "tt_draw: instance 1 is not at 650");
+    default_place.axis[0] = (struct tt_axis){TT_TAG('w', 'g', 'h', 't'), 400 << 16};
+    size_t before = rows_of(variable, text, &plain, by_place, sizeof by_place);
+    expect(before != bytes || memcmp(by_number, by_place, bytes) != 0, "tt_draw: instance 1 is the default");
+    expect(before == rows_of(variable, text, &default_place, by_number, sizeof by_number) &&
+               memcmp(by_number, by_place, before) == 0,
+           "tt_draw: the default's place is not the default");
+    verdict("an instance by its number and by its place, with the fit %u", fit);
+  }
+  struct tt_job beyond = {.size = 16, .instance = 5}, last = {.size = 16, .instance = UINT32_MAX},
+                other = {.size = 16, .axes = 1, .axis = {{TT_TAG('w', 'd', 't', 'h'), 0}}};
+  all_refuse("an instance that the font lacks", variable, text, beyond, false, TT_FONT, 28);
+  all_refuse("the largest number as instance", variable, text, last, false, TT_FONT, 28);
+  all_refuse("an axis that the font lacks", variable, text, other, false, TT_FONT, 27);
+  all_refuse("an instance of a font without one", font, text, other, false, TT_FONT, 3);
+}
+
 /* Zeros, and the font before them; the pages of the zeros take no memory, since nobody writes to them. */
 static void try_sizes(struct room text) {
   uint8_t *large = mmap(NULL, FONT_LIMIT + 1, PROT_READ | PROT_WRITE, MAP_PRIVATE | MAP_ANONYMOUS, -1, 0);
@@ -392,11 +513,15 @@ static void try_sizes(struct room text) {
 
 int main(int count, char **words) {
   static uint8_t bytes[1 << 20];
-  if (count != 3) stop("want FONT TEXT");
-  FILE *file = fopen(words[1], "rb");
-  if (!file) stop("cannot read the font");
-  font = held(bytes, fread(bytes, 1, sizeof bytes, file));
-  fclose(file);
+  if (count != 4) stop("want FONT TEXT VARIABLE");
+  struct room fonts[2];
+  for (size_t i = 0; i < 2; i++) {
+    FILE *file = fopen(words[1 + 2 * i], "rb");
+    if (!file) stop("cannot read the font");
+    fonts[i] = held(bytes, fread(bytes, 1, sizeof bytes, file));
+    fclose(file);
+  }
+  font = fonts[0];
   struct room text = held_hex(words[2], strlen(words[2]));
   try_jobs();
   try_texts();
@@ -406,7 +531,12 @@ int main(int count, char **words) {
   try_labels();
   try_all_offsets();
   try_all_ends();
+  try_many_axes(text);
+  try_lists_of_axes(fonts[1]);
+  try_rooms_of_axes(fonts[1], text);
+  try_instances(fonts[1], text);
   try_sizes(text);
+  give_up(fonts[1]);
   give_up(text);
   return 0;
 }

@@ -146,7 +146,7 @@ int main(int count, char **words) {
       struct question q = question_of(font, texts[0], job);
       q.count = UINT32_MAX;
       for (const struct call *const *it = every_call; *it; it++) {
-        if ((*it)->has_job) refuse_each(*it, &q, of);
+        if ((*it)->has_job || *it == &maps_job) refuse_each(*it, &q, of);
       }
       give_up(q.ends);
       q.text = together;

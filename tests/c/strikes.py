@@ -12,7 +12,8 @@ SIZES, ROUNDED = (1, 9, 16, 24, 57, 300), (0, 1)
 
 
 class Job(ctypes.Structure):
-    _fields_ = [(it, u32) for it in "size margin fit grow face kern rounded blank".split()]
+    _fields_ = [(it, u32) for it in "size margin fit grow face kern rounded blank instance axes".split()]
+    _fields_ += [("axis", u32 * 32)]
 
 
 class Answer(ctypes.Structure):

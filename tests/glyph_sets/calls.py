@@ -20,7 +20,7 @@ def struct_of(**fields):
 Answer = struct_of(status=c_uint32, number=c_uint32, table=c_char * 4, offset=c_uint32, bytes=c_uint64, count=c_uint64)
 Job = struct_of(
     size=c_uint32, margin=c_uint32, fit=c_uint32, grow=c_uint32, face=c_uint32, kern=c_uint32, rounded=c_uint32,
-    blank=c_uint32,
+    blank=c_uint32, instance=c_uint32, axes=c_uint32, axis=c_uint32 * 32,
 )
 Bitmap = struct_of(
     glyph=c_uint32, status=c_uint32, number=c_uint32, table=c_char * 4, offset=c_uint32, advance=c_uint32,

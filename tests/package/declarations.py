@@ -14,10 +14,14 @@ RUST = re.sub(r"///.*", "", (ROOT / "bindings/rust/src/c.rs").read_text(encoding
 
 # The types of C by those of Python and of Rust, and the structs of Rust whose names are others.
 OF_PYTHON = {"u32": "uint32_t", "i32": "int32_t", "u64": "uint64_t", "i64": "int64_t",
-             "c_char * 4": "uint8_t[4]", "tt_box": "tt_box", "tt_picture": "tt_picture", "tt_underline": "tt_underline"}
+             "c_char * 4": "uint8_t[4]", "c_char * 68": "uint8_t[68]", "i32 * 64": "int32_t[64]",
+             "tt_axis * 16": "tt_axis[16]", "tt_box": "tt_box", "tt_picture": "tt_picture",
+             "tt_underline": "tt_underline"}
 OF_RUST = {"u8": "uint8_t", "u32": "uint32_t", "i32": "int32_t", "u64": "uint64_t", "i64": "int64_t",
-           "usize": "size_t", "c_int": "int", "[u8; 4]": "uint8_t[4]"}
-NAMES = {"Figures": "tt_font", "Shape": "tt_picture", "PixelBox": "tt_box", "LabelJob": "tt_label_job"}
+           "usize": "size_t", "c_int": "int", "[u8; 4]": "uint8_t[4]", "[u8; 68]": "uint8_t[68]",
+           "[i32; 64]": "int32_t[64]", "[Axis; 16]": "tt_axis[16]"}
+NAMES = {"Figures": "tt_font", "Shape": "tt_picture", "PixelBox": "tt_box", "LabelJob": "tt_label_job",
+         "AxisRange": "tt_axis_range"}
 
 
 def of_rust(kind):

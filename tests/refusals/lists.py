@@ -23,7 +23,7 @@ FILES = (
 # This refusal names the table that is not there.
 OF_ANY_TABLE = "NoTable"
 # The refusals that only a call of C gives, wherever they have their numbers.
-OF_C_ALONE = ("UnknownFit", "LineEnds", "UnknownAlign")
+OF_C_ALONE = ("UnknownFit", "LineEnds", "UnknownAlign", "AxesMany")
 # The refusals of fonts whose instances no command draws yet, so that no case can meet them.
 OF_NO_COMMAND = ("VariationShape", "NoAxis", "NoInstance", "GlyphVariation")
 # The refusals that have no case in tests/rows, and where their cases are.

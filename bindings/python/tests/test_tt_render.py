@@ -1,6 +1,8 @@
 """Tries the module tt_render beside the program tt_render, which TT_RENDER names. TT_FONT names the font,
 DejaVu Sans."""
 import os
+import pathlib
+import re
 import struct
 import subprocess
 import unittest
@@ -58,6 +60,56 @@ def drawn(bitmaps, picture):
     for column, row in black:
         rows[row * row_bytes + (column + moved) // 8] |= 128 >> (column + moved) % 8
     return bytes(rows)
+
+
+def variable():
+    """Returns a font with weights from 100 to 900 and four named instances: that of tests/c/variable.txt."""
+    text = pathlib.Path(__file__).parents[3].joinpath("tests/c/variable.txt").read_text()
+    return bytes.fromhex(re.search("^font (.*)", text, re.M)[1])
+
+
+class Instances(unittest.TestCase):
+    def setUp(self):
+        self.data = variable()
+
+    def drawn(self, *words, **asked):
+        return [tt_render.Font(self.data, *words, **asked).draw("AB", 48, fit=fit) for fit in tt_render.Fit]
+
+    def refused(self, **asked):
+        with self.assertRaises(tt_render.Error) as raised:
+            tt_render.Font(self.data, **asked)
+        return raised.exception.number
+
+    def test_lists(self):
+        self.assertEqual([it[:4] for it in tt_render.axes_of(self.data)], [("wght", 100, 400, 900)])
+        names = [(0, (100,), "Thin"), (1, (650,), "Medium"), (2, (900,), "Black & wide"), (3, (900,), "Medium")]
+        self.assertEqual(tt_render.instances_of(self.data), [tt_render.Instance(*it) for it in names])
+
+    def test_places(self):
+        medium = self.drawn(instance=1)
+        self.assertEqual(self.drawn(instance="Medium"), medium)
+        self.assertEqual(self.drawn(axes={"wght": 650}), medium)
+        self.assertEqual(self.drawn(None, axes={"wght": 650})[0], medium[0])
+        self.assertEqual(self.drawn(instance=0, axes={"wght": 650}), medium)
+        self.assertEqual(self.drawn(axes={"wght": 1e9}), self.drawn(instance=2))
+        self.assertEqual(self.drawn(axes={"wght": 400}), self.drawn())
+        self.assertNotEqual(medium, self.drawn())
+
+    def test_calls(self):
+        plain, black = tt_render.Font(self.data), tt_render.Font(self.data, instance=2)
+        self.assertEqual([it.advance for it in black.map("AB")], [it.advance for it in plain.map("AB")])
+        self.assertEqual(black.label("A", 48).picture, black.draw("A", 48))
+        self.assertEqual(list(black.labels(["A"], 48)), [black.draw("A", 48)])
+        self.assertEqual(black.measure("A", 48).ink.right, plain.measure("A", 48).ink.right + 3)
+        self.assertEqual(black.glyphs([1], 48)[0].width, plain.glyphs([1], 48)[0].width + 3)
+
+    def test_refused(self):
+        self.assertEqual([self.refused(instance=it) for it in (4, -1, 2**40, "Bold", "")], [28] * 5)
+        self.assertEqual(self.refused(axes={"wdth": 100}), 27)
+        self.assertEqual(self.refused(axes={"wght": 700, "w": 0}), 27)
+        self.assertEqual(self.refused(axes={f"a{it:03}": 0 for it in range(17)}), 73)
+        for tag in ("", "weight", "wgh\xe9"):
+            self.assertRaises(ValueError, tt_render.Font, self.data, axes={tag: 0})
 
 
 class Calls(unittest.TestCase):
@@ -150,6 +202,13 @@ class Calls(unittest.TestCase):
         self.assertEqual(str(self.refused(self.font.label, "A", 16, align=9)), "72 UnknownAlign")
         self.assertEqual(str(self.refused(self.font.label, "A", 16, box=(9, 0))), "70 BoxRange")
         self.assertEqual(str(self.refused(self.font.label, "A" * 99, 16, box=(9, 9))), "71 BoxSmall")
+
+    def test_no_axes(self):
+        data = pathlib.Path(FONT).read_bytes()
+        self.assertEqual((tt_render.axes_of(data), tt_render.instances_of(data)), ([], []))
+        self.assertEqual(self.refused(tt_render.Font, data, axes={"wght": 700}).table, "fvar")
+        self.assertEqual(self.refused(tt_render.Font, data, instance=0).number, 3)
+        self.assertEqual(tt_render.Font(data, axes={}).draw("A", 16), self.font.draw("A", 16))
 
     def test_options(self):
         for fit in tt_render.Fit:

@@ -7,6 +7,9 @@
 What is refused raises Error. Several threads may call at once. tt_render.h describes each call. Where `supported()` is
 False the processor is too old, and any other call may end the process.
 
+A variable font is drawn at its default, or at an instance: `Font.open("Inter.ttf", axes={"wght": 700})`, or
+`instance="Bold"`. `axes_of` and `instances_of` list what a font has.
+
 With `kern` pairs of characters such as AV are moved nearer, by the font's tables; it pays from size 16 on. With
 `rounded` ascent and descent are each rounded to the nearest row, and not up. Then box drawing characters join, of
 pictures that are set one below the other.
@@ -18,7 +21,7 @@ import enum
 import itertools
 import os
 import pathlib
-from typing import Any, Iterable, Iterator, NamedTuple, Optional
+from typing import Any, Iterable, Iterator, Mapping, NamedTuple, Optional
 
 from . import _library as c
 from ._library import Box, Error, supported
@@ -113,13 +116,83 @@ def faces(data: bytes) -> int:
     return c.ask("tt_faces", bytes(data)).count
 
 
-class Font:
-    """A face of a font file. With None the file is no collection, and is read strictly."""
+class Axis(NamedTuple):
+    """An axis of a variable font: its tag, its values and its name."""
 
-    def __init__(self, data: bytes, face: Optional[int] = 0) -> None:
-        asked = 0 if face is None else face + 1 if face >= 0 else face
-        self._data, self._face, told = bytes(data), c.number(asked), c.tt_font()
+    tag: str
+    least: float
+    default: float
+    greatest: float
+    name: str
+
+
+class Instance(NamedTuple):
+    """A named instance of a variable font: its number, its value on each axis, and its name."""
+
+    number: int
+    places: tuple[float, ...]
+    name: str
+
+
+def _face_asked(face: Optional[int]) -> Any:
+    """Returns the number by which the library reads a face, or with None strictly."""
+    return c.number(0 if face is None else face + 1 if face >= 0 else face)
+
+
+def axes_of(data: bytes, face: Optional[int] = 0) -> list[Axis]:
+    """Lists the axes of a variable font; none of any other font."""
+    told = c.entries(c.tt_axis_range, 64, "tt_axes", bytes(data), _face_asked(face))
+    return [
+        Axis(it.tag.to_bytes(4, "big").decode("latin-1"), it.least / 65536, it.default_value / 65536,
+             it.greatest / 65536, it.name.decode("latin-1"))
+        for it in told
+    ]
+
+
+def instances_of(data: bytes, face: Optional[int] = 0) -> list[Instance]:
+    """Lists the first 256 named instances of a variable font; none of any other font."""
+    count = len(axes_of(data, face))
+    told = c.entries(c.tt_instance, 256, "tt_instances", bytes(data), _face_asked(face))
+    return [
+        Instance(it.instance - 1, tuple(place / 65536 for place in it.place[:count]), it.name.decode("latin-1"))
+        for it in told
+    ]
+
+
+def _instance_asked(data: bytes, face: Optional[int], instance: int | str | None) -> Any:
+    """Returns the number by which a job asks for a named instance: 0 for None, and for a name that the font lacks one
+    that no font has."""
+    if isinstance(instance, str):
+        found = [it.number for it in instances_of(data, face) if it.name == instance != ""]
+        instance = found[0] if found else -1
+    return c.number(0 if instance is None else instance + 1 if instance >= 0 else instance)
+
+
+def _tag_asked(tag: str) -> int:
+    """Returns the number of an axis' tag, which blanks fill up to four characters."""
+    if not 1 <= len(tag) <= 4 or not tag.isascii():
+        raise ValueError(f"{tag!r} is no tag of an axis")
+    return int.from_bytes(tag.ljust(4).encode(), "big")
+
+
+class Font:
+    """A face of a font file, at an instance if one is asked for. With the face None the file is no collection, and is
+    read strictly.
+
+    `instance` is the number of a named instance, from 0 on, or its name. `axes` has values of axes by their tags, which
+    come after those of the named instance. The figures of the font are those of its default.
+    """
+
+    def __init__(self, data: bytes, face: Optional[int] = 0, *, instance: int | str | None = None,
+                 axes: Optional[Mapping[str, float]] = None) -> None:
+        self._data, self._face, told = bytes(data), _face_asked(face), c.tt_font()
         c.ask("tt_open_face", self._data, self._face, told)
+        values = [c.tt_axis(_tag_asked(tag), c.fixed(value)) for tag, value in (axes or {}).items()]
+        number = _instance_asked(self._data, face, instance)
+        self._instance = number, c.number(len(values)), (c.tt_axis * 16)(*values[:16])
+        if values or instance is not None:
+            # A call with no text tells whether the font has the instance.
+            c.entries(c.tt_glyph, 0, "tt_map_job", self._data, b"", self._job(1, 0, Fit.FULL))
         self.units_per_em: int = told.units_per_em
         self.ascent: int = told.ascent
         self.descent: int = told.descent
@@ -127,14 +200,15 @@ class Font:
         self.glyph_count: int = told.glyphs
 
     @classmethod
-    def open(cls, path: str | os.PathLike[str], face: Optional[int] = 0) -> Font:
+    def open(cls, path: str | os.PathLike[str], face: Optional[int] = 0, *, instance: int | str | None = None,
+             axes: Optional[Mapping[str, float]] = None) -> Font:
         """Reads a font file."""
-        return cls(pathlib.Path(path).read_bytes(), face)
+        return cls(pathlib.Path(path).read_bytes(), face, instance=instance, axes=axes)
 
     def _job(self, size: int, margin: int, fit: int, grow: bool = False, kern: bool = False,
              rounded: bool = False, blank: bool = False) -> Any:
         numbers = map(c.number, (size, margin, fit))
-        return c.tt_job(*numbers, bool(grow), self._face, bool(kern), bool(rounded), bool(blank))
+        return c.tt_job(*numbers, bool(grow), self._face, bool(kern), bool(rounded), bool(blank), *self._instance)
 
     def label(self, text: str, size: int, *, margin: int = 0, fit: int = Fit.BEST, align: int = Align.LEFT,
               width: int = 0, box: Optional[tuple[int, int]] = None, kern: bool = False, rounded: bool = False) -> Label:
@@ -147,8 +221,9 @@ class Font:
         """
         numbers = [c.number(it) for it in (size, margin, fit)]
         # A side of 0 is refused, and in C no box.
-        sides = [c.number(it or -1) for it in box or ()]
-        job = c.tt_label_job(*numbers, self._face, bool(kern), bool(rounded), c.number(align), c.number(width), *sides)
+        sides = [c.number(it or -1) for it in box] if box else [c.number(0)] * 2
+        job = c.tt_label_job(*numbers, self._face, bool(kern), bool(rounded), c.number(align), c.number(width), *sides,
+                             *self._instance)
         told = c.tt_label()
         answer, rows = c.with_rows("tt_label", self._data, c.utf8_of(text), job, told)
         return c.tuple_of(Label, told, picture=c.tuple_of(Picture, told.picture, rows=rows[: answer.bytes]))
@@ -212,8 +287,8 @@ class Font:
 
     def map(self, text: str) -> list[Glyph]:
         """Returns the glyph and the advance of each character of a text."""
-        utf8 = c.utf8_of(text)
-        return c.listed(Glyph, c.tt_glyph, len(utf8), "tt_map_face", self._data, self._face, utf8)
+        utf8, job = c.utf8_of(text), self._job(1, 0, Fit.FULL)
+        return c.listed(Glyph, c.tt_glyph, len(utf8), "tt_map_job", self._data, utf8, job)
 
     def strike(self, size: int, *, fit: int = Fit.BEST, rounded: bool = False) -> Strike:
         """Tells the rows of the font's lines at a size, and its underline."""

@@ -2,6 +2,7 @@
 from __future__ import annotations
 
 import ctypes
+import math
 import pathlib
 from ctypes import c_char, c_size_t
 from ctypes import c_int32 as i32, c_int64 as i64, c_uint32 as u32, c_uint64 as u64
@@ -22,9 +23,13 @@ def _struct(name: str, **fields: Any) -> Any:
 # The structs of tt_render.h, in its order.
 tt_answer = _struct("tt_answer", status=u32, number=u32, table=c_char * 4, offset=u32, bytes=u64, count=u64)
 tt_font = _struct("tt_font", units_per_em=u32, ascent=i32, descent=i32, glyphs=u32, line_gap=i32)
-tt_job = _struct("tt_job", size=u32, margin=u32, fit=u32, grow=u32, face=u32, kern=u32, rounded=u32, blank=u32)
+tt_axis = _struct("tt_axis", tag=u32, value=i32)
+tt_job = _struct("tt_job", size=u32, margin=u32, fit=u32, grow=u32, face=u32, kern=u32, rounded=u32, blank=u32,
+                 instance=u32, axes=u32, axis=tt_axis * 16)
 tt_label_job = _struct("tt_label_job", size=u32, margin=u32, fit=u32, face=u32, kern=u32, rounded=u32, align=u32,
-                     width=u32, box_width=u32, box_height=u32)
+                     width=u32, box_width=u32, box_height=u32, instance=u32, axes=u32, axis=tt_axis * 16)
+tt_axis_range = _struct("tt_axis_range", tag=u32, least=i32, default_value=i32, greatest=i32, name=c_char * 68)
+tt_instance = _struct("tt_instance", instance=u32, place=i32 * 64, name=c_char * 68)
 tt_picture = _struct("tt_picture", width=u32, height=u32, row_bytes=u64, baseline=i64, unfitted=u64)
 tt_label = _struct("tt_label", picture=tt_picture, size=u64, cut_left=u64, cut_right=u64, missing=u64)
 tt_box = _struct("tt_box", left=i64, top=i64, right=i64, bottom=i64)
@@ -73,8 +78,13 @@ def with_rows(call: str, *words: Any) -> tuple[Any, Any]:
 
 def listed(kind: Any, struct: Any, count: int, call: str, *words: Any) -> list[Any]:
     """Calls with a room for entries as the last word, and returns these as tuples of that kind."""
+    return [tuple_of(kind, it) for it in entries(struct, count, call, *words)]
+
+
+def entries(struct: Any, count: int, call: str, *words: Any) -> list[Any]:
+    """Calls with a room for so many entries as the last word, and returns those that were told."""
     told = (struct * count)()
-    return [tuple_of(kind, it) for it in told[: ask(call, *words, told).count]]
+    return told[: ask(call, *words, told).count]
 
 
 def tuple_of(kind: Any, struct: Any, **more: Any) -> Any:
@@ -87,6 +97,12 @@ def tuple_of(kind: Any, struct: Any, **more: Any) -> Any:
 def number(value: int) -> u32:
     """A number for C. One that C cannot hold becomes the largest, which the library refuses."""
     return u32(value if 0 <= value < 1 << 32 else (1 << 32) - 1)
+
+
+def fixed(value: float) -> int:
+    """A number for C in 16.16, to the nearest, a half away from 0. What C cannot hold becomes the nearest it can."""
+    scaled = math.floor(abs(value) * 65536 + 0.5)
+    return max(-(1 << 31), -scaled) if value < 0 else min((1 << 31) - 1, scaled)
 
 
 def utf8_of(text: str) -> bytes:

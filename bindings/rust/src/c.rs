@@ -30,6 +30,13 @@ pub struct Figures {
 }
 
 #[repr(C)]
+#[derive(Clone, Copy, Debug, Default, PartialEq, Eq)]
+pub struct Axis {
+    pub tag: u32,
+    pub value: i32,
+}
+
+#[repr(C)]
 pub struct Job {
     pub size: u32,
     pub margin: u32,
@@ -39,6 +46,9 @@ pub struct Job {
     pub kern: u32,
     pub rounded: u32,
     pub blank: u32,
+    pub instance: u32,
+    pub axes: u32,
+    pub axis: [Axis; 16],
 }
 
 #[repr(C)]
@@ -53,6 +63,49 @@ pub struct LabelJob {
     pub width: u32,
     pub box_width: u32,
     pub box_height: u32,
+    pub instance: u32,
+    pub axes: u32,
+    pub axis: [Axis; 16],
+}
+
+#[repr(C)]
+#[derive(Clone, Copy)]
+pub struct AxisRange {
+    pub tag: u32,
+    pub least: i32,
+    pub default_value: i32,
+    pub greatest: i32,
+    pub name: [u8; 68],
+}
+
+impl Default for AxisRange {
+    fn default() -> AxisRange {
+        AxisRange {
+            tag: 0,
+            least: 0,
+            default_value: 0,
+            greatest: 0,
+            name: [0; 68],
+        }
+    }
+}
+
+#[repr(C)]
+#[derive(Clone, Copy)]
+pub struct Instance {
+    pub instance: u32,
+    pub place: [i32; 64],
+    pub name: [u8; 68],
+}
+
+impl Default for Instance {
+    fn default() -> Instance {
+        Instance {
+            instance: 0,
+            place: [0; 64],
+            name: [0; 68],
+        }
+    }
 }
 
 /// A picture without its pixels.
@@ -234,6 +287,22 @@ pub struct Strike {
 extern "C" {
     pub fn tt_supported() -> c_int;
     pub fn tt_faces(font: *const u8, font_bytes: usize, answer: *mut Answer) -> u32;
+    pub fn tt_axes(
+        font: *const u8,
+        font_bytes: usize,
+        face: u32,
+        axes: *mut AxisRange,
+        room: usize,
+        answer: *mut Answer,
+    ) -> u32;
+    pub fn tt_instances(
+        font: *const u8,
+        font_bytes: usize,
+        face: u32,
+        instances: *mut Instance,
+        room: usize,
+        answer: *mut Answer,
+    ) -> u32;
     pub fn tt_open_face(
         font: *const u8,
         font_bytes: usize,
@@ -241,12 +310,12 @@ extern "C" {
         told: *mut Figures,
         answer: *mut Answer,
     ) -> u32;
-    pub fn tt_map_face(
+    pub fn tt_map_job(
         font: *const u8,
         font_bytes: usize,
-        face: u32,
         text: *const u8,
         text_bytes: usize,
+        job: *const Job,
         glyphs: *mut Glyph,
         room: usize,
         answer: *mut Answer,

@@ -1,7 +1,8 @@
 //! The calls of the library, as functions over slices.
 use crate::c::{self, Answer, Bitmap, Figures, Glyph, Layout, Line, Pen, Shape};
 use crate::error::{done, Error, ROOM};
-use crate::picture::{Bitmaps, Character, Job, Label, LabelJob, Measure, Picture, Strike};
+use crate::picture::{Bitmaps, Character, Fit, Job, Label, LabelJob, Measure, Picture, Strike};
+use crate::variation::{Axis, Instance, Place};
 
 /// The room of a first call that draws a text.
 const FIRST_ROOM: usize = 1 << 16;
@@ -32,12 +33,13 @@ pub fn supported() -> bool {
     unsafe { c::tt_supported() != 0 }
 }
 
-/// A face of a font file.
+/// A face of a font file, of a variable font at an instance.
 #[derive(Clone, Copy, Debug)]
 pub struct Font<'a> {
     bytes: &'a [u8],
     face: u32,
     figures: Figures,
+    place: Place,
 }
 
 // SAFETY, of each call below: each slice is as long as it says, and what is written is borrowed mutably, so it overlaps
@@ -66,12 +68,83 @@ impl<'a> Font<'a> {
             bytes,
             face,
             figures,
+            place: Place::default(),
         })
     }
 
-    /// The figures of the font.
+    /// The figures of the font; of a variable font those of its default.
     pub fn figures(&self) -> Figures {
         self.figures
+    }
+
+    /// Lists the axes of a variable font; none of any other font.
+    pub fn axes(&self) -> Result<Vec<Axis>, Error> {
+        let (mut told, mut answer) = (vec![c::AxisRange::default(); 64], Answer::default());
+        unsafe {
+            c::tt_axes(
+                self.bytes.as_ptr(),
+                self.bytes.len(),
+                self.face,
+                told.as_mut_ptr(),
+                told.len(),
+                &mut answer,
+            )
+        };
+        told.truncate(done(answer)?.count as usize);
+        Ok(told.iter().map(Axis::from).collect())
+    }
+
+    /// Lists the first 256 named instances of a variable font; none of any other font.
+    pub fn instances(&self) -> Result<Vec<Instance>, Error> {
+        let axes = self.axes()?.len();
+        let (mut told, mut answer) = (vec![c::Instance::default(); 256], Answer::default());
+        unsafe {
+            c::tt_instances(
+                self.bytes.as_ptr(),
+                self.bytes.len(),
+                self.face,
+                told.as_mut_ptr(),
+                told.len(),
+                &mut answer,
+            )
+        };
+        told.truncate(done(answer)?.count as usize);
+        Ok(told.iter().map(|it| Instance::of(it, axes)).collect())
+    }
+
+    /// The font at a named instance, by the instance's number from 0 on. Values of axes remain.
+    pub fn at_instance(self, number: u32) -> Result<Font<'a>, Error> {
+        Font {
+            place: self.place.of_instance(number.saturating_add(1)),
+            ..self
+        }
+        .tested()
+    }
+
+    /// The font at the first named instance with a name. Values of axes remain.
+    pub fn at_instance_named(self, name: &str) -> Result<Font<'a>, Error> {
+        let listed = self.instances()?;
+        let found = listed
+            .iter()
+            .find(|it| it.name == name && !name.is_empty())
+            .map_or(u32::MAX, |it| it.number);
+        self.at_instance(found)
+    }
+
+    /// The font at values of axes, in the place of the values before. They come after those of the named instance. A
+    /// value past an end of its axis is the end.
+    pub fn with_axes(self, values: &[([u8; 4], f64)]) -> Result<Font<'a>, Error> {
+        Font {
+            place: self.place.of_values(values),
+            ..self
+        }
+        .tested()
+    }
+
+    /// This font, if it has the instance: a call without a text opens it.
+    fn tested(self) -> Result<Font<'a>, Error> {
+        self.map("")?;
+        Ok(self)
     }
 
     /// Draws a label: `draw_label` with `LabelJob::of_size`.
@@ -110,7 +183,7 @@ impl<'a> Font<'a> {
                 self.bytes.len(),
                 text.as_ptr(),
                 text.len(),
-                &job.of_face(self.face),
+                &job.of_font(self.face, &self.place),
                 rows.as_mut_ptr(),
                 rows.len(),
                 &mut told,
@@ -152,7 +225,7 @@ impl<'a> Font<'a> {
                 self.bytes.len(),
                 text.as_ptr(),
                 text.len(),
-                &job.of_face(self.face),
+                &job.of_font(self.face, &self.place),
                 rows.as_mut_ptr(),
                 rows.len(),
                 &mut shape,
@@ -205,7 +278,7 @@ impl<'a> Font<'a> {
                 text.len(),
                 ends.as_ptr(),
                 ends.len(),
-                &job.of_face(self.face),
+                &job.of_font(self.face, &self.place),
                 LINES_ROOM,
                 rows.as_mut_ptr(),
                 rows.len(),
@@ -229,7 +302,7 @@ impl<'a> Font<'a> {
                 text.len(),
                 ends.as_ptr(),
                 ends.len(),
-                &job.of_face(self.face),
+                &job.of_font(self.face, &self.place),
                 LINES_ROOM,
                 &mut answer,
             )
@@ -249,7 +322,7 @@ impl<'a> Font<'a> {
                 self.bytes.len(),
                 text.as_ptr(),
                 text.len(),
-                &job.of_face(self.face),
+                &job.of_font(self.face, &self.place),
                 &mut told,
                 &mut answer,
             )
@@ -267,7 +340,7 @@ impl<'a> Font<'a> {
                 self.bytes.len(),
                 text.as_ptr(),
                 text.len(),
-                &job.of_face(self.face),
+                &job.of_font(self.face, &self.place),
                 told.as_mut_ptr(),
                 told.len(),
                 &mut answer,
@@ -279,14 +352,17 @@ impl<'a> Font<'a> {
 
     /// Returns the glyph and the advance of each character of a text.
     pub fn map(&self, text: &str) -> Result<Vec<Glyph>, Error> {
+        let mut job = Job::of_size(1);
+        job.fit = Fit::Full;
+        let job = job.of_font(self.face, &self.place);
         let (mut told, mut answer) = (vec![Glyph::default(); text.len()], Answer::default());
         unsafe {
-            c::tt_map_face(
+            c::tt_map_job(
                 self.bytes.as_ptr(),
                 self.bytes.len(),
-                self.face,
                 text.as_ptr(),
                 text.len(),
+                &job,
                 told.as_mut_ptr(),
                 told.len(),
                 &mut answer,
@@ -303,7 +379,7 @@ impl<'a> Font<'a> {
             c::tt_strike(
                 self.bytes.as_ptr(),
                 self.bytes.len(),
-                &job.of_face(self.face),
+                &job.of_font(self.face, &self.place),
                 &mut told,
                 &mut answer,
             )
@@ -321,7 +397,7 @@ impl<'a> Font<'a> {
                 self.bytes.len(),
                 text.as_ptr(),
                 text.len(),
-                &job.of_face(self.face),
+                &job.of_font(self.face, &self.place),
                 &mut told,
                 &mut answer,
             )
@@ -339,7 +415,7 @@ impl<'a> Font<'a> {
                 self.bytes.len(),
                 text.as_ptr(),
                 text.len(),
-                &job.of_face(self.face),
+                &job.of_font(self.face, &self.place),
                 told.as_mut_ptr(),
                 told.len(),
                 &mut answer,
@@ -381,7 +457,7 @@ impl<'a> Font<'a> {
                 self.bytes.len(),
                 numbers.as_ptr(),
                 numbers.len(),
-                &job.of_face(self.face),
+                &job.of_font(self.face, &self.place),
                 rows.as_mut_ptr(),
                 rows.len(),
                 told.as_mut_ptr(),

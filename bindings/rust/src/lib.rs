@@ -8,7 +8,10 @@
 //! # Ok::<(), tt_render::Error>(())
 //! ```
 //!
-//! The library has no state: a `Font` is the caller's bytes and a number. tt_render.h describes each call.
+//! The library has no state: a `Font` is the caller's bytes and some numbers. tt_render.h describes each call.
+//!
+//! A variable font is drawn at its default, or at an instance: `font.with_axes(&[(*b"wght", 700.0)])?`, or
+//! `font.at_instance_named("Bold")?`. `Font::axes` and `Font::instances` list what a font has.
 //!
 //! Types that are `#[non_exhaustive]` may get further fields or members. A request is made by `Job::of_size` or
 //! `LabelJob::of_size`, and then changed field by field.
@@ -18,6 +21,7 @@ mod c;
 mod error;
 mod font;
 mod picture;
+mod variation;
 
 pub use c::{Bitmap, Figures, Glyph, Layout, Pen, PixelBox, Shape};
 pub use error::Error;
@@ -25,3 +29,4 @@ pub use font::{faces, supported, Font};
 pub use picture::{
     Align, Bitmaps, Character, Fit, Job, Label, LabelJob, Measure, Picture, Strike, Underline,
 };
+pub use variation::{Axis, Instance};

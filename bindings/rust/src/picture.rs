@@ -1,5 +1,6 @@
 //! What a text is drawn with, and what a call gives back.
 use crate::c;
+use crate::variation::Place;
 
 /// The ways to fit outlines to the pixels.
 #[derive(Clone, Copy, Debug, Default, PartialEq, Eq)]
@@ -64,7 +65,7 @@ impl Job {
         }
     }
 
-    pub(crate) fn of_face(&self, face: u32) -> c::Job {
+    pub(crate) fn of_font(&self, face: u32, place: &Place) -> c::Job {
         let Job {
             size,
             margin,
@@ -83,6 +84,9 @@ impl Job {
             kern: kern.into(),
             rounded: rounded.into(),
             blank: blank.into(),
+            instance: place.instance,
+            axes: place.axes,
+            axis: place.axis,
         }
     }
 }
@@ -126,7 +130,7 @@ impl LabelJob {
         }
     }
 
-    pub(crate) fn of_face(&self, face: u32) -> c::LabelJob {
+    pub(crate) fn of_font(&self, face: u32, place: &Place) -> c::LabelJob {
         let LabelJob {
             size,
             margin,
@@ -154,6 +158,9 @@ impl LabelJob {
             width,
             box_width,
             box_height,
+            instance: place.instance,
+            axes: place.axes,
+            axis: place.axis,
         }
     }
 }

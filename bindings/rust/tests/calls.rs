@@ -121,6 +121,102 @@ fn labels_are_those_of_the_program() {
     );
 }
 
+/// A font with weights from 100 to 900 and four named instances: that of tests/c/variable.txt.
+fn variable() -> Vec<u8> {
+    let text = include_str!("../../../tests/c/variable.txt");
+    let digits = text
+        .lines()
+        .find_map(|it| it.strip_prefix("font "))
+        .unwrap();
+    (0..digits.len() / 2)
+        .map(|it| u8::from_str_radix(&digits[2 * it..][..2], 16).unwrap())
+        .collect()
+}
+
+#[test]
+fn instances_are_listed() {
+    let bytes = variable();
+    let font = Font::new(&bytes).unwrap();
+    let axes = font.axes().unwrap();
+    assert_eq!(axes.len(), 1);
+    assert_eq!(
+        (
+            axes[0].tag,
+            axes[0].least,
+            axes[0].default,
+            axes[0].greatest
+        ),
+        (*b"wght", 100.0, 400.0, 900.0)
+    );
+    let listed = font.instances().unwrap();
+    let wanted = [
+        (0, 100.0, "Thin"),
+        (1, 650.0, "Medium"),
+        (2, 900.0, "Black & wide"),
+        (3, 900.0, "Medium"),
+    ];
+    assert_eq!(listed.len(), wanted.len());
+    for (got, (number, place, name)) in listed.iter().zip(wanted) {
+        assert_eq!(
+            (got.number, &got.places[..], &got.name[..]),
+            (number, &[place][..], name)
+        );
+    }
+    let other = font_bytes();
+    let other = Font::new(&other).unwrap();
+    assert!(other.axes().unwrap().is_empty() && other.instances().unwrap().is_empty());
+    assert_eq!(other.at_instance(0).unwrap_err().number(), 3);
+}
+
+#[test]
+fn instances_are_drawn() {
+    let bytes = variable();
+    let plain = Font::new(&bytes).unwrap();
+    let medium = plain.at_instance(1).unwrap();
+    for fit in [Fit::Full, Fit::None, Fit::Fallback, Fit::Best] {
+        let job = changed(48, |it| it.fit = fit);
+        let drawn = medium.draw("AB", &job).unwrap();
+        let others = [
+            plain.at_instance_named("Medium"),
+            plain.with_axes(&[(*b"wght", 650.0)]),
+            plain.with_axes(&[(*b"wght", 100.0), (*b"wght", 650.0)]),
+            medium
+                .at_instance(0)
+                .unwrap()
+                .with_axes(&[(*b"wght", 650.0)]),
+        ];
+        for other in others {
+            assert_eq!(other.unwrap().draw("AB", &job).unwrap(), drawn);
+        }
+        assert_ne!(plain.draw("AB", &job).unwrap(), drawn);
+        let default = plain.with_axes(&[(*b"wght", 400.0)]).unwrap();
+        assert_eq!(
+            default.draw("AB", &job).unwrap(),
+            plain.draw("AB", &job).unwrap()
+        );
+    }
+    let label = medium.label("A", 48).unwrap();
+    assert_eq!(label.picture, medium.draw("A", &Job::of_size(48)).unwrap());
+}
+
+#[test]
+fn instances_are_refused() {
+    let bytes = variable();
+    let font = Font::new(&bytes).unwrap();
+    for number in [4, u32::MAX] {
+        assert_eq!(font.at_instance(number).unwrap_err().number(), 28);
+    }
+    for name in ["Bold", ""] {
+        assert_eq!(font.at_instance_named(name).unwrap_err().number(), 28);
+    }
+    let other = font.with_axes(&[(*b"wdth", 100.0)]).unwrap_err();
+    assert_eq!((other.number(), other.table()), (27, Some(*b"fvar")));
+    let many = font.with_axes(&[(*b"wght", 400.0); 17]).unwrap_err();
+    assert_eq!((many.status(), many.number()), (2, 73));
+    assert_eq!(many.to_string(), "73 AxesMany");
+    assert!(font.with_axes(&[(*b"wght", 400.0); 16]).is_ok());
+}
+
 #[test]
 fn labels_have_a_width() {
     let bytes = font_bytes();

@@ -14,6 +14,8 @@ ghost use Rattle.tt_c_calls.specs.Measures.{MeasuresText, PlacesCharacters};
 ghost use Rattle.tt_c_calls.specs.Messages.{WritesMessage};
 ghost use Rattle.tt_c_calls.specs.Pictures.{DrawsBand};
 ghost use Rattle.tt_c_calls.specs.Strikes.{TellsStrike};
+ghost use Rattle.tt_c_instances.specs.Maps.{MapsJob};
+ghost use Rattle.tt_c_instances.specs.VariationLists.{TellsAxes, TellsInstances};
 ghost use Rattle.tt_c_labels.specs.Labels.{DrawsLabel};
 
 use std::alloc::Global;
@@ -21,6 +23,7 @@ use tt_c_calls::{
     Band, CAnswer, CBitmap, CCharacter, CFont, CGlyph, CJob, CLayout, CLine, CMeasure, CPen,
     CPicture, CStrike, TextRequest, Texts,
 };
+use tt_c_instances::{CAxisRange, CInstance};
 use tt_c_labels::{CLabel, CLabelJob, LabelRequest};
 
 /// The version of the library, as `TT_RENDER_VERSION` of the header: 10,000 times its first part, 100 times the second,
@@ -67,6 +70,38 @@ pub extern "C" fn tt_open_face(
     answer.status
 }
 
+/// `tt_c_instances::axes`.
+#[unsafe(no_mangle)]
+pub extern "C" fn tt_axes(
+    alloc: Global,
+    font: &[u8],
+    face: u32,
+    axes: &mut [CAxisRange],
+    answer: &mut CAnswer,
+) -> u32
+    ensures status { result ≡ answer.new.status }
+    ensures tells { TellsAxes (face_reading face) font.now axes.old axes.new answer.new }
+{
+    *answer = tt_c_instances::axes(alloc, font, face, axes);
+    answer.status
+}
+
+/// `tt_c_instances::instances`.
+#[unsafe(no_mangle)]
+pub extern "C" fn tt_instances(
+    alloc: Global,
+    font: &[u8],
+    face: u32,
+    instances: &mut [CInstance],
+    answer: &mut CAnswer,
+) -> u32
+    ensures status { result ≡ answer.new.status }
+    ensures tells { TellsInstances (face_reading face) font.now instances.old instances.new answer.new }
+{
+    *answer = tt_c_instances::instances(alloc, font, face, instances);
+    answer.status
+}
+
 /// `tt_c_calls::map` without a face.
 #[unsafe(no_mangle)]
 pub extern "C" fn tt_map(font: &[u8], text: &[u8], room: &mut [CGlyph], answer: &mut CAnswer) -> u32
@@ -90,6 +125,24 @@ pub extern "C" fn tt_map_face(
     ensures maps { MapsText (face_reading face) text.now font.now room.old room.new answer.new }
 {
     *answer = tt_c_calls::map(font, face, text, room);
+    answer.status
+}
+
+/// `tt_c_instances::map_job`.
+#[unsafe(no_mangle)]
+pub extern "C" fn tt_map_job(
+    alloc: Global,
+    font: &[u8],
+    text: &[u8],
+    job: &CJob,
+    room: &mut [CGlyph],
+    answer: &mut CAnswer,
+) -> u32
+    ensures status { result ≡ answer.new.status }
+    ensures maps { MapsJob job.now text.now font.now room.old room.new answer.new }
+{
+    let request = TextRequest { font, text, job };
+    *answer = tt_c_instances::map_job(alloc, &request, room);
     answer.status
 }
 

@@ -1,20 +1,21 @@
 -- The answer for a fault that stopped a call.
-use Rattle.std.proofs.Common.{◌≡◌, ◌≢◌, List, ℕ, Bool, true, false, Result, Ok, Err, inl, inr, refl, nat_lt, length, arith}
+use Rattle.std.proofs.Common.{◌≡◌, ◌≢◌, List, ℕ, Option, Bool, true, false, Result, Ok, Err, inl, inr, refl, nat_lt, length, arith}
 use Rattle.std.specs.Prelude.{IfSome, if◌then◌else◌}
 use Rattle.tt_core.specs.declared.collection.Reading.{Reading}
-use Rattle.tt_face.specs.declared.rules.LineRules.{LineRules}
 use Rattle.tt_face.specs.declared.rules.Opening.{Opening}
 use Rattle.tt_core.specs.declared.fault.JobFault.{JobFault}
 use Rattle.tt_core.specs.Faults.{Fault}
 use Rattle.tt_core.specs.Limits.{font_limit}
-use Rattle.tt_core.specs.Outcomes.{◌>>=◌, draw_font_fault}
+use Rattle.tt_core.specs.declared.font_fault.FontFault.{FontFault}
+use Rattle.tt_core.specs.declared.font_fault.FontFault.TheVariants as reading
+use Rattle.tt_core.specs.Outcomes.{◌>>=◌, draw_fault_of_font, draw_font_fault, font_fault}
 use Rattle.tt_render_run.specs.Outcome.{of_font}
 use Rattle.tt_core.specs.declared.draw_fault.DrawFault.{DrawFault}
 use Rattle.tt_core.specs.declared.draw_fault.DrawFault.TheVariants as draw
 use Rattle.tt_strike.specs.Refusals.{Refused, as_font, as_job, job, large, refusal}
 use Rattle.tt_face.specs.Faces.{Face}
-use Rattle.tt_face.specs.Files.{face_by, face_with}
-use Rattle.tt_face.specs.Rules.{ruled}
+use Rattle.tt_face.specs.Files.{face_by}
+use Rattle.tt_face.specs.Instance.{Asked, face_at_instance}
 use Rattle.tt_c_calls.specs.declared.fault.CallFault.{CallFault}
 use Rattle.tt_c_calls.specs.declared.fault.CallFault.TheVariants as call
 use Rattle.tt_c_calls.specs.Answers.{DefectStands, TellsRefusal, call_answer}
@@ -34,6 +35,7 @@ tells wanted call.FontLarge is = rw is (inl refl)
 tells wanted call.UnknownFit is = rw is (inl refl)
 tells wanted call.LineEnds is = rw is (inl refl)
 tells wanted call.UnknownAlign is = rw is (inl refl)
+tells wanted call.AxesMany is = rw is (inl refl)
 tells wanted call.WidthRange is = rw is (inl refl)
 tells wanted call.BoxRange is = rw is (inl refl)
 tells wanted call.BoxSmall is = rw is (inl refl)
@@ -48,6 +50,7 @@ stands P call.FontLarge is = λ h. absurd (omega (arith, h))
 stands P call.UnknownFit is = λ h. absurd (omega (arith, h))
 stands P call.LineEnds is = λ h. absurd (omega (arith, h))
 stands P call.UnknownAlign is = λ h. absurd (omega (arith, h))
+stands P call.AxesMany is = λ h. absurd (omega (arith, h))
 stands P call.WidthRange is = λ h. absurd (omega (arith, h))
 stands P call.BoxRange is = λ h. absurd (omega (arith, h))
 stands P call.BoxSmall is = λ h. absurd (omega (arith, h))
@@ -62,6 +65,7 @@ serves call.FontLarge other = λ h. omega (arith, h)
 serves call.UnknownFit other = λ h. omega (arith, h)
 serves call.LineEnds other = λ h. omega (arith, h)
 serves call.UnknownAlign other = λ h. omega (arith, h)
+serves call.AxesMany other = λ h. omega (arith, h)
 serves call.WidthRange other = λ h. omega (arith, h)
 serves call.BoxRange other = λ h. omega (arith, h)
 serves call.BoxSmall other = λ h. omega (arith, h)
@@ -76,6 +80,7 @@ fails call.FontLarge = λ h. omega (arith, h)
 fails call.UnknownFit = λ h. omega (arith, h)
 fails call.LineEnds = λ h. omega (arith, h)
 fails call.UnknownAlign = λ h. omega (arith, h)
+fails call.AxesMany = λ h. omega (arith, h)
 fails call.WidthRange = λ h. omega (arith, h)
 fails call.BoxRange = λ h. omega (arith, h)
 fails call.BoxSmall = λ h. omega (arith, h)
@@ -90,6 +95,7 @@ wants_none call.FontLarge = λ h. omega (arith, h)
 wants_none call.UnknownFit = λ h. omega (arith, h)
 wants_none call.LineEnds = λ h. omega (arith, h)
 wants_none call.UnknownAlign = λ h. omega (arith, h)
+wants_none call.AxesMany = λ h. omega (arith, h)
 wants_none call.WidthRange = λ h. omega (arith, h)
 wants_none call.BoxRange = λ h. omega (arith, h)
 wants_none call.BoxSmall = λ h. omega (arith, h)
@@ -104,6 +110,7 @@ writes_none call.FontLarge = refl
 writes_none call.UnknownFit = refl
 writes_none call.LineEnds = refl
 writes_none call.UnknownAlign = refl
+writes_none call.AxesMany = refl
 writes_none call.WidthRange = refl
 writes_none call.BoxRange = refl
 writes_none call.BoxSmall = refl
@@ -120,6 +127,7 @@ first_stops wanted f call.FontLarge is = rw is refl
 first_stops wanted f call.UnknownFit is = rw is refl
 first_stops wanted f call.LineEnds is = rw is refl
 first_stops wanted f call.UnknownAlign is = rw is refl
+first_stops wanted f call.AxesMany is = rw is refl
 first_stops wanted f call.WidthRange is = rw is refl
 first_stops wanted f call.BoxRange is = rw is refl
 first_stops wanted f call.BoxSmall is = rw is refl
@@ -141,26 +149,13 @@ pub by_face : {X : Type 0} (test : Result (Unit {0}) JobFault) (make : Face → 
 unfolding face_wanted
 by_face test make r font passes = rw passes (by_size (nat_lt font_limit (length font)) (face_by font r) make)
 
--- the tables with the rules of their lines are the tables, and then the rules
-opened_by : (is_large : Bool) (face : Result Face Fault) (rules : LineRules)
-    → as_call (if is_large then Err large else as_font (face >>= λ f. Ok (ruled rules f)))
-    ≡ (as_call (if is_large then Err large else as_font face) >>= λ f. Ok (ruled rules f))
-opened_by true face rules = refl
-opened_by false (Ok face) rules = refl
-opened_by false (Err f) rules = refl
-
-pub opened_is : (o : Opening) (font : List ℕ)
-    → opened_wanted o font ≡ (face_wanted o.reading font >>= λ f. Ok (ruled o.rules f))
-unfolding opened_wanted face_wanted face_with
-opened_is o font = opened_by (nat_lt font_limit (length font)) (face_by font o.reading) o.rules
-
--- the same with the rules of lines
+-- the same at an instance, with the rules of lines
 pub by_opening : {X : Type 0} (test : Result (Unit {0}) JobFault) (make : Face → Result X Refused) (o : Opening)
-    (font : List ℕ) → test ≡ Ok tt
-    → as_call (as_job test >>= λ u. of_font (λ file. as_font (face_with file o) >>= make) font)
-    ≡ (opened_wanted o font >>= λ face. as_call (make face))
+    (i : Option Asked) (font : List ℕ) → test ≡ Ok tt
+    → as_call (as_job test >>= λ u. of_font (λ file. as_font (face_at_instance file o i) >>= make) font)
+    ≡ (opened_wanted o i font >>= λ face. as_call (make face))
 unfolding opened_wanted
-by_opening test make o font passes = rw passes (by_size (nat_lt font_limit (length font)) (face_with font o) make)
+by_opening test make o i font passes = rw passes (by_size (nat_lt font_limit (length font)) (face_at_instance font o i) make)
 
 -- a request of a font that fails its tests
 pub by_test : {X : Type 0} (test : Result (Unit {0}) JobFault) (make : Unit {0} → Result X Refused) (j : JobFault)
@@ -184,3 +179,19 @@ draw_tells P draw.Memory stands = tt
 -- what is drawn is what the call gives
 pub drawn_too : {X : Type 0} (wanted : Result X Refused) (x : X) → wanted ≡ Ok x → as_call wanted ≡ Ok x
 drawn_too wanted x is = rw is refl
+
+-- a fault of reading stops what draws for the same reason
+pub font_refused : {X : Type 0} (wanted : Result X Fault) (d : FontFault)
+    → IfSome (font_fault d) (λ why. wanted ≡ Err why)
+    → IfSome (refusal (draw_fault_of_font d)) (λ why. as_font wanted ≡ Err why)
+font_refused wanted (reading.Font f) is = rw is refl
+font_refused wanted reading.Memory is = tt
+
+pub font_tells : (P : Fault → Type 0) (d : FontFault) → IfSome (font_fault d) P
+    → IfSome (draw_font_fault (draw_fault_of_font d)) P
+font_tells P (reading.Font f) stands = stands
+font_tells P reading.Memory stands = tt
+
+-- what is read is what the call gives
+pub font_drawn : {X : Type 0} (wanted : Result X Fault) (x : X) → wanted ≡ Ok x → as_font wanted ≡ Ok x
+font_drawn wanted x is = rw is refl

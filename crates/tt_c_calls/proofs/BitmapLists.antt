@@ -9,7 +9,6 @@ use Rattle.tt_core.specs.Faults.{Fault}
 use Rattle.tt_core.specs.Outcomes.{◌>>=◌, draw_font_fault}
 use Rattle.tt_face.specs.Faces.{Face}
 use Rattle.tt_face.specs.declared.rules.Opening.{Opening}
-use Rattle.tt_face.specs.Files.{IsFaceDefectBy}
 use Rattle.tt_fit.specs.declared.programs.Fit.{Fit}
 use Rattle.tt_fit.specs.Defects.{IsOutlineDefect}
 use Rattle.tt_fit.specs.Fitting.{Fitter}
@@ -30,12 +29,12 @@ use Rattle.tt_strike.specs.Refusals.{job}
 use Rattle.tt_strike.specs.Work.{line_fitter}
 use Rattle.tt_c_calls.specs.declared.asked.CJob.{CJob}
 use Rattle.tt_c_calls.specs.declared.fault.CallFault.{CallFault}
-use Rattle.tt_c_calls.specs.Asked.{fit_asked, job_reading}
+use Rattle.tt_c_calls.specs.Asked.{IsPlainFaceDefect, job_fit, job_instance, plain_of}
 use Rattle.tt_c_calls.specs.Bitmaps.{EntryStands, IsListDefect, IsListGlyphDefect, bitmap_by, bitmap_told, bitmaps_wanted}
-use Rattle.tt_c_calls.specs.Fonts.{face_wanted}
+use Rattle.tt_c_calls.specs.Fonts.{plain_opened}
 use Rattle.tt_c_calls.specs.Refusals.{as_call, call_font_fault, call_of_draw, call_refusal, refused}
-use Rattle.tt_c_calls.proofs.Answered.{by_face, by_test, draw_tells, first_stops}
-use Rattle.tt_c_calls.proofs.AskedTables.{face_read}
+use Rattle.tt_c_calls.proofs.Answered.{by_opening, by_test, draw_tells, first_stops}
+use Rattle.tt_c_calls.proofs.AskedTables.{plain_face_opened}
 use Rattle.tt_c_calls.proofs.StrikeLines.{if_some_more}
 
 -- the job by which the size of a list is tested: no text, and no margin
@@ -72,52 +71,52 @@ count_tells gs size r passes counted = rw passes counted
 
 -- the request is refused before the font is looked at
 pub fit_refuses : (j : CJob) (gs font : List ℕ) (e : CallFault)
-    → IfSome (call_refusal e) (λ why. fit_asked j.fit ≡ Err why)
+    → IfSome (call_refusal e) (λ why. job_fit j ≡ Err why)
     → IfSome (call_refusal e) (λ why. bitmaps_wanted j gs font ≡ Err why)
 unfolding bitmaps_wanted
-fit_refuses j gs font e is = first_stops (fit_asked j.fit) _ e is
+fit_refuses j gs font e is = first_stops (job_fit j) _ e is
 
-pub list_refused : (j : CJob) (gs font : List ℕ) (how : Fit) (why : JobFault) → fit_asked j.fit ≡ Ok how
+pub list_refused : (j : CJob) (gs font : List ℕ) (how : Fit) (why : JobFault) → job_fit j ≡ Ok how
     → limits_tested gs j.size ≡ Err why → bitmaps_wanted j gs font ≡ Err (refused (job why))
 unfolding bitmaps_wanted
 list_refused j gs font how why fits fails = rw fits (by_test (limits_tested gs j.size) _ why fails)
 
-of_tables : (j : CJob) (gs font : List ℕ) (how : Fit) → fit_asked j.fit ≡ Ok how → limits_tested gs j.size ≡ Ok tt
+of_tables : (j : CJob) (gs font : List ℕ) (how : Fit) → job_fit j ≡ Ok how → limits_tested gs j.size ≡ Ok tt
     → bitmaps_wanted j gs font
-    ≡ (face_wanted (job_reading j how) font >>= λ face. as_call (bitmaps_in face (job_for gs j.size how)))
+    ≡ (plain_opened j how font >>= λ face. as_call (bitmaps_in face (job_for gs j.size how)))
 unfolding bitmaps_wanted
 of_tables j gs font how fits passes =
-    rw fits (by_face (limits_tested gs j.size) (λ face. bitmaps_in face (job_for gs j.size how)) (job_reading j how) font
-    passes)
+    rw fits (by_opening (limits_tested gs j.size) (λ face. bitmaps_in face (job_for gs j.size how)) (plain_of j how)
+    (job_instance j) font passes)
 
-pub face_refuses : (j : CJob) (gs font : List ℕ) (how : Fit) (e : CallFault) → fit_asked j.fit ≡ Ok how
-    → limits_tested gs j.size ≡ Ok tt → IfSome (call_refusal e) (λ why. face_wanted (job_reading j how) font ≡ Err why)
+pub face_refuses : (j : CJob) (gs font : List ℕ) (how : Fit) (e : CallFault) → job_fit j ≡ Ok how
+    → limits_tested gs j.size ≡ Ok tt → IfSome (call_refusal e) (λ why. plain_opened j how font ≡ Err why)
     → IfSome (call_refusal e) (λ why. bitmaps_wanted j gs font ≡ Err why)
 face_refuses j gs font how e fits passes is =
-    rw (of_tables j gs font how fits passes) (first_stops (face_wanted (job_reading j how) font) _ e is)
+    rw (of_tables j gs font how fits passes) (first_stops (plain_opened j how font) _ e is)
 
 outcome_is : (face : Face) (a : GlyphJob) → request_tested a ≡ Ok tt → bitmaps_outcome face a ≡ bitmaps_in face a
 unfolding bitmaps_outcome
 outcome_is face a passes = rw passes refl
 
-pub by_opened : (j : CJob) (gs font : List ℕ) (how : Fit) (face : Face) → fit_asked j.fit ≡ Ok how
-    → limits_tested gs j.size ≡ Ok tt → face_wanted (job_reading j how) font ≡ Ok face
+pub by_opened : (j : CJob) (gs font : List ℕ) (how : Fit) (face : Face) → job_fit j ≡ Ok how
+    → limits_tested gs j.size ≡ Ok tt → plain_opened j how font ≡ Ok face
     → bitmaps_wanted j gs font ≡ as_call (bitmaps_outcome face (job_for gs j.size how))
 by_opened j gs font how face fits passes read =
     of_tables j gs font how fits passes ∙ rw read (ap as_call (sym (outcome_is face (job_for gs j.size how) passes)))
 
 -- a defect of the font's tables, or of the tables and programs that every glyph needs
-pub face_stands : (j : CJob) (font : List ℕ) (how : Fit) (e : CallFault) → fit_asked j.fit ≡ Ok how
-    → IfSome (call_font_fault e) (IsFaceDefectBy font (job_reading j how)) → IfSome (call_font_fault e) (IsListDefect j font)
+pub face_stands : (j : CJob) (font : List ℕ) (how : Fit) (e : CallFault) → job_fit j ≡ Ok how
+    → IfSome (call_font_fault e) (IsPlainFaceDefect j how font) → IfSome (call_font_fault e) (IsListDefect j font)
 face_stands j font how e fits = if_some_more (call_font_fault e) _ _ (λ f h. rw fits (inl h))
 
-pub setting_stands : (j : CJob) (font : List ℕ) (how : Fit) (face : Face) (d : DrawFault) → fit_asked j.fit ≡ Ok how
-    → face_wanted (job_reading j how) font ≡ Ok face
+pub setting_stands : (j : CJob) (font : List ℕ) (how : Fit) (face : Face) (d : DrawFault) → job_fit j ≡ Ok how
+    → plain_opened j how font ≡ Ok face
     → IfSome (draw_font_fault d) (IsSettingDefect face (job_at j.size how))
     → IfSome (call_font_fault (call_of_draw d)) (IsListDefect j font)
 setting_stands j font how face d fits read is =
     if_some_more (call_font_fault (call_of_draw d)) (IsSettingDefect face (job_at j.size how)) (IsListDefect j font)
-    (λ f h. rw (fits, face_read (job_reading j how) font face read) (inr h)) (draw_tells _ d is)
+    (λ f h. rw (fits, plain_face_opened j how font face read) (inr h)) (draw_tells _ d is)
 
 -- an entry that refuses its glyph for a defect names the defect of its report
 entry_stands : (P : ℕ → Fault → Type 0) (e : GlyphEntry) (t : Told) → ((f : Fault) → t ≡ told.Broken f → P e.glyph f)
@@ -150,9 +149,9 @@ by_setting P (Ok s) gs es more tells = all_stand P s gs es more tells
 by_setting P (Err f) gs es more tells = absurd tells
 
 pub glyphs_stand : (j : CJob) (gs font : List ℕ) (how : Fit) (face : Face) (es : List GlyphEntry)
-    → fit_asked j.fit ≡ Ok how → face_wanted (job_reading j how) font ≡ Ok face
+    → job_fit j ≡ Ok how → plain_opened j how font ≡ Ok face
     → IsOkAnd (setting face j.size how) (λ s. TellGlyphDefects s gs es)
     → All (λ (e : GlyphEntry). EntryStands (IsListGlyphDefect j gs font) (bitmap_told e)) es
 glyphs_stand j gs font how face es fits read tells =
     by_setting (IsListGlyphDefect j gs font) (setting face j.size how) gs es
-    (λ g f is. rw (fits, face_read (job_reading j how) font face read) is) tells
+    (λ g f is. rw (fits, plain_face_opened j how font face read) is) tells

@@ -20,11 +20,11 @@ use Rattle.tt_strike.specs.Refusals.{Refused, as_font, as_job}
 use Rattle.tt_strike.proofs.Characters.{length-characters}
 use Rattle.tt_strike.proofs.Placed.{of-job, placed_glyphs, placed_of}
 use Rattle.tt_c_calls.specs.declared.asked.CJob.{CJob}
-use Rattle.tt_c_calls.specs.Asked.{asked, fit_asked, grows, job_opening, text_asked}
-use Rattle.tt_c_calls.specs.Fonts.{opened_wanted}
+use Rattle.tt_c_calls.specs.Asked.{asked, fit_asked, grows, job_fit, job_opening, text_asked}
+use Rattle.tt_c_calls.specs.Fonts.{job_opened, opened_wanted}
 use Rattle.tt_c_calls.specs.Measures.{measure_wanted}
 use Rattle.tt_c_calls.specs.Offsets.{offsets_asked}
-use Rattle.tt_c_calls.specs.Pictures.{made_of}
+use Rattle.tt_c_calls.specs.Pictures.{made_for, made_of}
 use Rattle.tt_c_calls.specs.Refusals.{as_call, not_utf8}
 use Rattle.tt_c_calls.proofs.AskedTables.{of_tables}
 use Rattle.tt_c_calls.proofs.Counted.{units_counted}
@@ -102,7 +102,7 @@ pub measured_is_text : (j : CJob) (text font : List ℕ) (m : Measure) → measu
 unfolding measure_wanted asked
 measured_is_text j text font m is other =
     let by_job = came-through (asked j text) _ m is in
-    let by_fit = came-through (fit_asked j.fit) _ by_job.value by_job.first in
+    let by_fit = came-through (job_fit j) _ by_job.value by_job.first in
     let by_text = came-through (text_asked text) _ by_job.value by_fit.rest in
     let taken : text_asked text ≡ Ok by_text.value = by_text.first in
     cc
@@ -114,11 +114,11 @@ unfolding measure_wanted
 wanted_counted places lead j text font m is =
     let by_job = came-through (asked j text) _ m is in
     let a = by_job.value in
-    let drawn = of_call (made_of (λ face. measure_by (grows j) face a) (job_opening j a.fit) a font) m by_job.rest in
+    let drawn = of_call (made_for (λ face. measure_by (grows j) face a) j a font) m by_job.rest in
     let by_test = came-through (as_job (tested a)) _ m drawn in
     let passes : tested a ≡ Ok tt = of-job (tested a) by_test.value by_test.first in
     let tables = of_tables (measure_by (grows j)) j text font a by_job.first passes in
-    let by_face = came-through (opened_wanted (job_opening j a.fit) font) (λ face. as_call (measure_by (grows j) face a)) m
+    let by_face = came-through (job_opened j a.fit font) (λ face. as_call (measure_by (grows j) face a)) m
     (sym tables ∙ is) in
     let face = by_face.value in
     characters_counted places lead (grows j) face a m (of_call (measure_by (grows j) face a) m by_face.rest)

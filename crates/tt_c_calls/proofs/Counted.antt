@@ -1,5 +1,5 @@
 -- Each unit of a text has an offset: the pens and the characters of the text are as many as its offsets.
-use Rattle.std.proofs.Common.{◌≡◌, ◌∙◌, ℕ, ◌+◌, ◌-◌, ◌||◌, ◌==◌, not, true, false, Bool, ℤ, List, [], ◌∷◌, length, Some, None, Ok, Err, ap, sym, if◌then◌else◌, refl, arith}
+use Rattle.std.proofs.Common.{◌≡◌, ◌∙◌, ℕ, ◌+◌, ◌-◌, ◌||◌, ◌==◌, not, true, false, Bool, ℤ, List, [], ◌∷◌, length, Option, Some, None, Ok, Err, ap, sym, if◌then◌else◌, refl, arith}
 use Rattle.std.specs.Prelude.{suc, ◌&&◌}
 use Rattle.std.specs.Char.{len_utf8}
 use Rattle.std.specs.Str.{chars, is_utf8}
@@ -17,12 +17,14 @@ use Rattle.tt_core.specs.Collections.{directory_by}
 use Rattle.tt_core.specs.Directory.{Directory, needed_table}
 use Rattle.tt_face.specs.declared.rules.Opening.{Opening}
 use Rattle.tt_face.specs.Faces.{Face, cmap_tag}
-use Rattle.tt_face.specs.Files.{face_at, face_by, face_with}
-use Rattle.tt_face.specs.Rules.{ruled}
+use Rattle.tt_face.specs.Files.{face_at, face_by}
+use Rattle.tt_face.specs.Instance.{Asked, face_at_instance}
 use Rattle.tt_fit.specs.declared.programs.Fit.{Fit}
 use Rattle.tt_fit.specs.declared.programs.Fit.TheVariants as fit
 use Rattle.tt_line.specs.Layout.{text_glyphs}
-use Rattle.tt_line.specs.Steps.{linear_line, step_in_pixels, stepped}
+use Rattle.tt_advances.specs.Found.{advances_tested}
+use Rattle.tt_advances.specs.Lines.{advance_line, advance_step}
+use Rattle.tt_line.specs.Steps.{stepped}
 use Rattle.tt_line.proofs.Stepped.{length-stepped}
 use Rattle.tt_strike.specs.declared.layouts.Pen.{Pen}
 use Rattle.tt_metrics.specs.Metrics.{Metrics, glyphs_of, metrics_of}
@@ -34,11 +36,12 @@ use Rattle.tt_strike.specs.Refusals.{as_font, as_job}
 use Rattle.tt_strike.specs.Work.{lays_after_glyphs}
 use Rattle.tt_picture.specs.Steps.{step_by}
 use Rattle.tt_c_calls.specs.declared.asked.CJob.{CJob}
-use Rattle.tt_c_calls.specs.Asked.{asked, fit_asked, job_opening, job_reading, reads_widely, text_asked}
+use Rattle.tt_c_calls.specs.Asked.{asked, fit_asked, job_fit, job_instance, job_opening, job_reading, reads_widely, text_asked}
 use Rattle.tt_c_calls.specs.Offsets.{offsets_asked, offsets_from}
-use Rattle.tt_c_calls.specs.Fonts.{opened_wanted}
+use Rattle.tt_c_calls.specs.Fonts.{job_opened}
 use Rattle.tt_c_calls.specs.Refusals.{not_utf8, unknown_fit}
-use Rattle.tt_c_calls.proofs.AskedTables.{face_opened}
+use Rattle.tt_c_calls.proofs.AskedTables.{fit_of_job, job_face_opened}
+use Rattle.tt_c_calls.proofs.OpenedAt.{opened_at}
 
 -- a text has as many offsets as units
 
@@ -80,17 +83,16 @@ unfolding face_by
 face_reads file r face is =
     let was = came-through (directory_by file r) (λ d. face_at d r) face is in face_reads_at was.value r face was.rest
 
-opened_reads : (file : List ℕ) (o : Opening) (face : Face) → face_with file o ≡ Ok face → has_pairs face.cmap ≡ is_wide o.reading
-unfolding face_with ruled
-opened_reads file o face is =
-    let was = came-through (face_by file o.reading) _ face is in
-    let same : ruled o.rules was.value ≡ face = cc in
-    rw (← same) (face_reads file o.reading was.value was.first)
+opened_reads : (file : List ℕ) (o : Opening) (i : Option Asked) (face : Face) → face_at_instance file o i ≡ Ok face
+    → has_pairs face.cmap ≡ is_wide o.reading
+opened_reads file o i face is =
+    let as_it_was = opened_at file o i face is in
+    rw as_it_was.cmap (face_reads file o.reading as_it_was.face as_it_was.read)
 
 -- the parts of a job that is asked for
 
 pub record AskedParts (j : CJob) (bytes : List ℕ) (a : Job) : Type 0 where
-  pub fit : fit_asked j.fit ≡ Ok a.fit
+  pub fit : job_fit j ≡ Ok a.fit
   pub text : a.text ≡ bytes
 
 text_kept : (b : Bool) (text t : List ℕ) → (if b then Ok text else Err not_utf8) ≡ Ok t → t ≡ text
@@ -104,7 +106,7 @@ text_same text t is = text_kept (is_utf8 text) text t is
 pub asked_parts : (j : CJob) (text : List ℕ) (a : Job) → asked j text ≡ Ok a → AskedParts j text a
 unfolding asked
 asked_parts j text a is =
-    let by_fit = came-through (fit_asked j.fit) _ a is in
+    let by_fit = came-through (job_fit j) _ a is in
     let by_text = came-through (text_asked text) _ a by_fit.rest in
     let same : a ≡ job_for j.size by_fit.value by_text.value j.margin = cc in
     rw same (record { fit = by_fit.first; text = text_same text by_text.value by_text.first })
@@ -129,18 +131,19 @@ reads_by : (none : Bool) (n : ℕ) (r : Reading) → is_wide (reading_asked (if 
 reads_by true n r = refl
 reads_by false n r = refl
 
-pub job_reads : (j : CJob) (how : Fit) → fit_asked j.fit ≡ Ok how → is_wide (job_reading j how) ≡ reads_widely j
+pub job_reads : (j : CJob) (how : Fit) → job_fit j ≡ Ok how → is_wide (job_reading j how) ≡ reads_widely j
 job_reads j how is =
-    reads_by (j.face == 0) (j.face - 1) (fit_reading how) ∙ ap (λ (b : Bool). not (j.face == 0) || b) (fit_reads j.fit how is)
+    reads_by (j.face == 0) (j.face - 1) (fit_reading how)
+    ∙ ap (λ (b : Bool). not (j.face == 0) || b) (fit_reads j.fit how (fit_of_job j how is))
 
 -- the units of a job's text by its face are as many as its offsets
 pub units_counted : (j : CJob) (text font : List ℕ) (a : Job) (face : Face) → asked j text ≡ Ok a
-    → opened_wanted (job_opening j a.fit) font ≡ Ok face
+    → job_opened j a.fit font ≡ Ok face
     → length (units_by face.cmap (chars a.text)) ≡ length (offsets_asked j text)
 units_counted j text font a face is read =
     let parts = asked_parts j text a is in
     let reads : has_pairs face.cmap ≡ reads_widely j =
-    opened_reads font (job_opening j a.fit) face (face_opened (job_opening j a.fit) font face read) ∙ job_reads j a.fit parts.fit in
+    opened_reads font (job_opening j a.fit) (job_instance j) face (job_face_opened j a.fit font face read) ∙ job_reads j a.fit parts.fit in
     rw (parts.text, reads) (sym (offsets_counted (reads_widely j) (chars text) 0))
 
 -- the steps of a text are as many as its units
@@ -151,7 +154,7 @@ stepped_counted m step cmap text =
     length-stepped m step (text_glyphs cmap text) ∙ length-map (units_by cmap (chars text)) (glyph_of_unit cmap)
 
 steps_by : (after : Bool) (face : Face) (a : Job) (steps : List (ℕ × ℕ))
-    → (if after then made_steps face a else Ok (linear_line face.metrics a.ppem (text_glyphs face.cmap a.text))) ≡ Ok steps
+    → (if after then made_steps face a else found_steps face a) ≡ Ok steps
     → length steps ≡ length (units_by face.cmap (chars a.text))
 steps_by true face a steps is =
     let gs = text_glyphs face.cmap a.text in
@@ -161,8 +164,10 @@ steps_by true face a steps is =
     let same : made_line face.metrics a.ppem s gs ≡ steps = cc in
     rw (← same) (stepped_counted face.metrics (step_by face.metrics a.ppem (advance_with s gs)) face.cmap a.text)
 steps_by false face a steps is =
-    let same : linear_line face.metrics a.ppem (text_glyphs face.cmap a.text) ≡ steps = cc in
-    rw (← same) (stepped_counted face.metrics (step_in_pixels face.metrics a.ppem) face.cmap a.text)
+    let gs = text_glyphs face.cmap a.text in
+    let found = came-through (as_font (advances_tested face gs)) _ steps is in
+    let same : advance_line face a.ppem gs ≡ steps = let rest = found.rest in cc in
+    rw (← same) (stepped_counted face.metrics (advance_step face a.ppem) face.cmap a.text)
 
 steps_counted : (face : Face) (a : Job) (steps : List (ℕ × ℕ)) → steps_outcome face a ≡ Ok steps
     → length steps ≡ length (units_by face.cmap (chars a.text))

@@ -1,6 +1,7 @@
 pub mod Entries
 pub mod Answered
 pub mod AskedTables
+pub mod OpenedAt
 mod Lines
 mod Plain
 mod ShortMessages

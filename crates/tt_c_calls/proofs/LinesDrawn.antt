@@ -16,12 +16,13 @@ use Rattle.tt_strike.specs.Job.{Job}
 use Rattle.tt_strike.specs.Refusals.{as_font}
 use Rattle.tt_face.specs.Faces.{Face}
 use Rattle.tt_face.specs.Files.{face_with}
+use Rattle.tt_face.specs.Instance.{face_at_instance}
 use Rattle.tt_fit.specs.declared.programs.Fit.{Fit}
 use Rattle.tt_c_calls.specs.declared.answer.CAnswer.{CAnswer}
 use Rattle.tt_c_calls.specs.declared.asked.CJob.{CJob}
 use Rattle.tt_c_calls.specs.declared.line_drawing.CLine.{CLine}
 use Rattle.tt_c_calls.specs.declared.pictures.CPicture.{CPicture}
-use Rattle.tt_c_calls.specs.Asked.{asked, grows, job_opening}
+use Rattle.tt_c_calls.specs.Asked.{asked, grows, job_instance, job_opening}
 use Rattle.tt_c_calls.specs.Answers.{job_answer}
 use Rattle.tt_c_calls.specs.Refusals.{Refusal, as_call}
 use Rattle.tt_c_calls.specs.Lines.{AreAffordable, cost_asked, cost_taken, first_taken, lines_taken, AreEnds, AreLinesDrawn, DrawsLines, EndsWith, IsLineDrawn, IsLineWritten, IsShown, IsTextStopped, line_between, line_bytes, line_taken, lines_by, lines_bytes, start_of, stopped_answer}
@@ -141,7 +142,7 @@ cost_found (Ok a) by p grow made = cost_of_job a (by a.fit) p grow made
 pub cost_of_line : (j : CJob) (font line : List ℕ) (p : Picture) → IsPictureOf j line font p
     → cost_taken (cost_asked j font line) ≡ p.cost
 cost_of_line j font line p of =
-    ap cost_taken (cost_found (asked j line) (λ how. face_with font (job_opening j how)) p (grows j) of.made)
+    ap cost_taken (cost_found (asked j line) (λ how. face_at_instance font (job_opening j how) (job_instance j)) p (grows j) of.made)
 
 shown_cost : (j : CJob) (font line : List ℕ) (told : CPicture) (rows : List ℕ) (cost : ℕ)
     → IsShown j font line told rows cost → line_taken j font line ≡ cost

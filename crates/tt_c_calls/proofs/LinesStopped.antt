@@ -8,7 +8,6 @@ use Rattle.tt_core.specs.Faults.{Fault}
 use Rattle.tt_core.specs.Outcomes.{◌>>=◌}
 use Rattle.tt_face.specs.Faces.{Face}
 use Rattle.tt_fit.specs.declared.programs.Fit.{Fit}
-use Rattle.tt_render_settings.proofs.FontLines.{face_file}
 use Rattle.tt_render_settings.specs.declared.setting.Setting.{Setting}
 use Rattle.tt_render_settings.specs.Settings.{job_by, plain_setting}
 use Rattle.tt_core.specs.declared.draw_fault.DrawFault.{DrawFault}
@@ -16,18 +15,19 @@ use Rattle.tt_core.specs.declared.draw_fault.DrawFault.TheVariants as draw
 use Rattle.tt_strike.specs.Job.{Job, size_tested, tested}
 use Rattle.tt_strike.specs.Refusals.{as_job, font, job, large, refusal}
 use Rattle.tt_strike.specs.Strikes.{Strike}
-use Rattle.tt_c_calls.specs.Fonts.{opened_wanted}
+use Rattle.tt_c_calls.specs.Fonts.{job_opened}
 use Rattle.tt_c_calls.specs.declared.answer.CAnswer.{CAnswer}
 use Rattle.tt_c_calls.specs.declared.asked.CJob.{CJob}
 use Rattle.tt_c_calls.specs.declared.fault.CallFault.{CallFault}
 use Rattle.tt_c_calls.specs.declared.fault.CallFault.TheVariants as call
 use Rattle.tt_c_calls.specs.declared.line_drawing.CLine.{CLine}
 use Rattle.tt_c_calls.specs.Answers.{call_answer, room_answer}
-use Rattle.tt_c_calls.specs.Asked.{fit_asked, job_opening}
+use Rattle.tt_c_calls.specs.Asked.{fit_asked, job_fit, job_instance, job_opening}
 use Rattle.tt_c_calls.specs.Lines.{AnswersInOrder, DrawsLines, EndsWith, IsStrikeFor, LineDefectStands, lines_wanted}
-use Rattle.tt_c_calls.specs.Refusals.{Refusal, as_call, box_range, box_small, call_font_fault, call_of_draw, call_refusal, line_ends, not_utf8, refused, unknown_align, unknown_fit, width_range}
+use Rattle.tt_c_calls.specs.Refusals.{Refusal, as_call, axes_many, box_range, box_small, call_font_fault, call_of_draw, call_refusal, line_ends, not_utf8, refused, unknown_align, unknown_fit, width_range}
 use Rattle.tt_c_calls.proofs.Answered.{by_opening}
-use Rattle.tt_c_calls.proofs.AskedTables.{face_opened, no_fit}
+use Rattle.tt_c_calls.proofs.AskedTables.{fit_by_itself, job_face_opened, no_fit}
+use Rattle.tt_c_calls.proofs.OpenedAt.{file_opened}
 use Rattle.tt_c_calls.proofs.StrikeLines.{if_some_more, not_done}
 
 -- no line was drawn
@@ -64,6 +64,8 @@ lines_refused j file texts ends room told call.LineEnds h =
     (0, none_drawn j file texts ends room told, inr (not_done call.LineEnds, inl (line_ends, h, refl)))
 lines_refused j file texts ends room told call.UnknownAlign h =
     (0, none_drawn j file texts ends room told, inr (not_done call.UnknownAlign, inl (unknown_align, h, refl)))
+lines_refused j file texts ends room told call.AxesMany h =
+    (0, none_drawn j file texts ends room told, inr (not_done call.AxesMany, inl (axes_many, h, refl)))
 lines_refused j file texts ends room told call.WidthRange h =
     (0, none_drawn j file texts ends room told, inr (not_done call.WidthRange, inl (width_range, h, refl)))
 lines_refused j file texts ends room told call.BoxRange h =
@@ -84,6 +86,7 @@ refused_first wanted room lines call.FontLarge other h = rw h refl
 refused_first wanted room lines call.UnknownFit other h = rw h refl
 refused_first wanted room lines call.LineEnds other h = rw h refl
 refused_first wanted room lines call.UnknownAlign other h = rw h refl
+refused_first wanted room lines call.AxesMany other h = rw h refl
 refused_first wanted room lines call.WidthRange other h = rw h refl
 refused_first wanted room lines call.BoxRange other h = rw h refl
 refused_first wanted room lines call.BoxSmall other h = rw h refl
@@ -104,25 +107,41 @@ room_names_none IsOne bytes count is = absurd (omega arith)
 
 -- the way to fit is refused
 pub fit_refused : (j : CJob) (file : List ℕ) (e : CallFault)
-    → IfSome (call_refusal e) (λ why. fit_asked j.fit ≡ Err why)
+    → IfSome (call_refusal e) (λ why. job_fit j ≡ Err why)
     → IfSome (call_refusal e) (λ why. lines_wanted j file ≡ Err why)
 unfolding lines_wanted
 fit_refused j file e = if_some_more (call_refusal e) _ _ (λ why h. rw h refl)
 
-pub fit_defect : (n : ℕ) (IsOne : Fault → Type 0) (e : CallFault)
+pub number_defect : (n : ℕ) (IsOne : Fault → Type 0) (e : CallFault)
     → IfSome (call_refusal e) (λ why. fit_asked n ≡ Err why) → IfSome (call_font_fault e) IsOne
 unfolding fit_asked
-fit_defect n IsOne (call.Font f) is = absurd (no_fit (n == 0) (n == 1) (n == 2) (n == 3) (font f) is)
-fit_defect n IsOne (call.Job j) is = tt
-fit_defect n IsOne call.FontLarge is = tt
-fit_defect n IsOne call.UnknownFit is = tt
-fit_defect n IsOne call.LineEnds is = tt
-fit_defect n IsOne call.UnknownAlign is = tt
-fit_defect n IsOne call.WidthRange is = tt
-fit_defect n IsOne call.BoxRange is = tt
-fit_defect n IsOne call.BoxSmall is = tt
-fit_defect n IsOne call.NotUtf8 is = tt
-fit_defect n IsOne call.Memory is = tt
+number_defect n IsOne (call.Font f) is = absurd (no_fit (n == 0) (n == 1) (n == 2) (n == 3) (font f) is)
+number_defect n IsOne (call.Job j) is = tt
+number_defect n IsOne call.FontLarge is = tt
+number_defect n IsOne call.UnknownFit is = tt
+number_defect n IsOne call.LineEnds is = tt
+number_defect n IsOne call.UnknownAlign is = tt
+number_defect n IsOne call.AxesMany is = tt
+number_defect n IsOne call.WidthRange is = tt
+number_defect n IsOne call.BoxRange is = tt
+number_defect n IsOne call.BoxSmall is = tt
+number_defect n IsOne call.NotUtf8 is = tt
+number_defect n IsOne call.Memory is = tt
+
+pub fit_defect : (j : CJob) (IsOne : Fault → Type 0) (e : CallFault)
+    → IfSome (call_refusal e) (λ why. job_fit j ≡ Err why) → IfSome (call_font_fault e) IsOne
+fit_defect j IsOne (call.Font f) is = absurd (fit_by_itself j (font f) is)
+fit_defect j IsOne (call.Job why) is = tt
+fit_defect j IsOne call.FontLarge is = tt
+fit_defect j IsOne call.UnknownFit is = tt
+fit_defect j IsOne call.LineEnds is = tt
+fit_defect j IsOne call.UnknownAlign is = tt
+fit_defect j IsOne call.AxesMany is = tt
+fit_defect j IsOne call.WidthRange is = tt
+fit_defect j IsOne call.BoxRange is = tt
+fit_defect j IsOne call.BoxSmall is = tt
+fit_defect j IsOne call.NotUtf8 is = tt
+fit_defect j IsOne call.Memory is = tt
 
 -- the defect that an answer reports
 pub lines_defect_told : (IsOne : Fault → Type 0) (e : CallFault) → IfSome (call_font_fault e) IsOne
@@ -133,6 +152,7 @@ lines_defect_told IsOne call.FontLarge stands is = absurd (omega arith)
 lines_defect_told IsOne call.UnknownFit stands is = absurd (omega arith)
 lines_defect_told IsOne call.LineEnds stands is = absurd (omega arith)
 lines_defect_told IsOne call.UnknownAlign stands is = absurd (omega arith)
+lines_defect_told IsOne call.AxesMany stands is = absurd (omega arith)
 lines_defect_told IsOne call.WidthRange stands is = absurd (omega arith)
 lines_defect_told IsOne call.BoxRange stands is = absurd (omega arith)
 lines_defect_told IsOne call.BoxSmall stands is = absurd (omega arith)
@@ -149,7 +169,7 @@ pub of_setting : (j : CJob) (how : Fit) (by : Opening) (s : Setting) (a : Job) (
 of_setting j how by s a r is of test =
     subst (λ (b : Job). tested b ≡ r) (is ∙ ap (λ (t : Setting). job_by t []) of) test
 
-pub job_refused : (j : CJob) (file : List ℕ) (how : Fit) (why : JobFault) → fit_asked j.fit ≡ Ok how
+pub job_refused : (j : CJob) (file : List ℕ) (how : Fit) (why : JobFault) → job_fit j ≡ Ok how
     → tested (of_no_text j how) ≡ Err why → lines_wanted j file ≡ Err (refused (job why))
 unfolding lines_wanted
 job_refused j file how why fits test = rw (fits, test) refl
@@ -159,21 +179,21 @@ all_faces : (r : Result Face Refusal) → (r >>= λ face. as_call {X = Face} (Ok
 all_faces (Ok face) = refl
 all_faces (Err why) = refl
 
-lines_of_font : (j : CJob) (file : List ℕ) (how : Fit) → fit_asked j.fit ≡ Ok how → tested (of_no_text j how) ≡ Ok tt
-    → lines_wanted j file ≡ opened_wanted (job_opening j how) file
+lines_of_font : (j : CJob) (file : List ℕ) (how : Fit) → job_fit j ≡ Ok how → tested (of_no_text j how) ≡ Ok tt
+    → lines_wanted j file ≡ job_opened j how file
 unfolding lines_wanted
 lines_of_font j file how fits test =
-    rw fits (by_opening (tested (of_no_text j how)) (λ face. Ok face) (job_opening j how) file test
-    ∙ all_faces (opened_wanted (job_opening j how) file))
+    rw fits (by_opening (tested (of_no_text j how)) (λ face. Ok face) (job_opening j how) (job_instance j) file test
+    ∙ all_faces (job_opened j how file))
 
-pub lines_opened : (j : CJob) (file : List ℕ) (how : Fit) (face : Face) → fit_asked j.fit ≡ Ok how
-    → tested (of_no_text j how) ≡ Ok tt → opened_wanted (job_opening j how) file ≡ Ok face
+pub lines_opened : (j : CJob) (file : List ℕ) (how : Fit) (face : Face) → job_fit j ≡ Ok how
+    → tested (of_no_text j how) ≡ Ok tt → job_opened j how file ≡ Ok face
     → lines_wanted j file ≡ Ok face
 lines_opened j file how face fits test found = lines_of_font j file how fits test ∙ found
 
-pub face_refused : (j : CJob) (file : List ℕ) (how : Fit) (e : CallFault) → fit_asked j.fit ≡ Ok how
+pub face_refused : (j : CJob) (file : List ℕ) (how : Fit) (e : CallFault) → job_fit j ≡ Ok how
     → tested (of_no_text j how) ≡ Ok tt
-    → IfSome (call_refusal e) (λ why. opened_wanted (job_opening j how) file ≡ Err why)
+    → IfSome (call_refusal e) (λ why. job_opened j how file ≡ Err why)
     → IfSome (call_refusal e) (λ why. lines_wanted j file ≡ Err why)
 face_refused j file how e fits test = if_some_more (call_refusal e) _ _
     (λ why h. lines_of_font j file how fits test ∙ h)
@@ -205,14 +225,15 @@ pub kept_alone : (r s t : Strike) → s ≡ record r { kept = s.kept } → t ≡
 kept_alone r s t first second = second ∙ ap (λ (x : Strike). record x { kept = t.kept }) first
 
 -- the font of a strike
-pub file_is : (r : Opening) (file : List ℕ) (face : Face) → opened_wanted r file ≡ Ok face → face.directory.file ≡ file
-file_is r file face is = sym (face_file file r face (face_opened r file face is))
+pub file_is : (j : CJob) (how : Fit) (file : List ℕ) (face : Face) → job_opened j how file ≡ Ok face → face.directory.file ≡ file
+file_is j how file face is =
+    sym (file_opened file (job_opening j how) (job_instance j) face (job_face_opened j how file face is))
 
-pub strike_for : (j : CJob) (file : List ℕ) (how : Fit) (face : Face) (s : Strike) (most : ℕ) → fit_asked j.fit ≡ Ok how
-    → tested (of_no_text j how) ≡ Ok tt → opened_wanted (job_opening j how) file ≡ Ok face
+pub strike_for : (j : CJob) (file : List ℕ) (how : Fit) (face : Face) (s : Strike) (most : ℕ) → job_fit j ≡ Ok how
+    → tested (of_no_text j how) ≡ Ok tt → job_opened j how file ≡ Ok face
     → s ≡ record { face = face; ppem = j.size; fit = how; most = most; kept = [] } → IsStrikeFor j s.face.directory.file s
 strike_for j file how face s most fits test found is =
     let for : IsStrikeFor j file s =
     rw is (record { face = lines_opened j file how face fits test found; fit = fits; size = refl }) in
-    let same : s.face.directory.file ≡ file = rw is (file_is (job_opening j how) file face found) in
+    let same : s.face.directory.file ≡ file = rw is (file_is j how file face found) in
     let P : List ℕ → Type 0 = λ l. IsStrikeFor j l s in subst P (sym same) for

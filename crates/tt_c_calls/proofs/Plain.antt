@@ -1,5 +1,5 @@
 -- A picture without `grow` is the one that `run` writes.
-use Rattle.std.proofs.Common.{◌≡◌, Bool, true, false, List, ℕ, Result, Ok, Err, ap, refl, nat_lt, length}
+use Rattle.std.proofs.Common.{◌≡◌, Bool, true, false, List, ℕ, Option, Result, Ok, Err, ap, refl, nat_lt, length}
 use Rattle.std.specs.Prelude.{if◌then◌else◌}
 use Rattle.tt_face.specs.declared.rules.Opening.{Opening}
 use Rattle.tt_core.specs.declared.fault.JobFault.{JobFault}
@@ -13,10 +13,10 @@ use Rattle.tt_strike.specs.Job.{Job, tested}
 use Rattle.tt_strike.specs.Picture.{line_outcome, pictured, pictured_by}
 use Rattle.tt_strike.specs.Refusals.{Refused, as_font, large}
 use Rattle.tt_face.specs.Faces.{Face}
-use Rattle.tt_face.specs.Files.{face_with}
-use Rattle.tt_c_calls.specs.Asked.{job_opening}
+use Rattle.tt_face.specs.Instance.{Asked, face_at_instance}
+use Rattle.tt_c_calls.specs.Asked.{job_instance, job_opening}
 use Rattle.tt_c_calls.specs.Laws.{PlainIsRun}
-use Rattle.tt_c_calls.specs.Pictures.{made_of, picture_wanted}
+use Rattle.tt_c_calls.specs.Pictures.{made_for, made_of, picture_wanted}
 use Rattle.tt_c_calls.specs.Refusals.{as_call}
 use Rattle.tt_render_settings.specs.Products.{picture_by}
 
@@ -32,11 +32,11 @@ by_size true face a passes = refl
 by_size false (Ok face) a passes = ap as_file (line_drawn face a passes)
 by_size false (Err f) a passes = refl
 
-by_test : (test : Result (Unit {0}) JobFault) (r : Opening) (a : Job) (font : List ℕ) → tested a ≡ test
-    → as_file (made_of (λ face. line_outcome face a) r a font) ≡ run_outcome r a font
+by_test : (test : Result (Unit {0}) JobFault) (r : Opening) (i : Option Asked) (a : Job) (font : List ℕ) → tested a ≡ test
+    → as_file (made_of (λ face. line_outcome face a) r i a font) ≡ run_outcome r i a font
 unfolding run_outcome pictured
-by_test (Ok u) r a font is = rw is (by_size (nat_lt font_limit (length font)) (face_with font r) a is)
-by_test (Err j) r a font is = rw is refl
+by_test (Ok u) r i a font is = rw is (by_size (nat_lt font_limit (length font)) (face_at_instance font r i) a is)
+by_test (Err j) r i a font is = rw is refl
 
 file_called : (made : Result Image Refused) → as_file (as_call made) ≡ as_call (as_file made)
 file_called (Ok i) = refl
@@ -45,5 +45,5 @@ file_called (Err why) = refl
 pub plain_is_run : PlainIsRun
 unfolding picture_wanted picture_by
 plain_is_run j text font a plain is =
-    rw (is, plain, ← by_test (tested a) (job_opening j a.fit) a font refl)
-    (file_called (made_of (λ face. line_outcome face a) (job_opening j a.fit) a font))
+    rw (is, plain, ← by_test (tested a) (job_opening j a.fit) (job_instance j) a font refl)
+    (file_called (made_for (λ face. line_outcome face a) j a font))

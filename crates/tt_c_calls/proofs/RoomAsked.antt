@@ -14,7 +14,7 @@ use Rattle.tt_c_calls.specs.Answers.{call_answer, done_answer, refusal_answer}
 use Rattle.tt_c_calls.specs.Asked.{IsAskedDefect}
 use Rattle.tt_c_calls.specs.LineRooms.{CountsRoom, EndsRoom, IsLineAccepted, IsLineRefused, TellsRoom, first_room, line_at, line_room, lines_room, most_bytes}
 use Rattle.tt_c_calls.specs.Lines.{IsLinesDefect, LineDefectStands, cost_taken, first_taken, line_between, line_taken, lines_by, lines_wanted, start_of, stopped_answer}
-use Rattle.tt_c_calls.specs.Refusals.{box_range, box_small, call_font_fault, call_refusal, line_ends, not_utf8, refused, unknown_align, unknown_fit, width_range}
+use Rattle.tt_c_calls.specs.Refusals.{axes_many, box_range, box_small, call_font_fault, call_refusal, line_ends, not_utf8, refused, unknown_align, unknown_fit, width_range}
 use Rattle.tt_c_calls.proofs.Answered.{writes_none}
 use Rattle.tt_c_calls.proofs.LinesDrawn.{first_taken_too, lines_behind, start_behind}
 use Rattle.tt_c_calls.proofs.LinesStopped.{lines_defect_told}
@@ -95,6 +95,7 @@ ends_at j file texts ends used i call.FontLarge few is = inr (inr (inr (refused 
 ends_at j file texts ends used i call.UnknownFit few is = inr (inr (inr (unknown_fit, few, is, refl)))
 ends_at j file texts ends used i call.LineEnds few is = inr (inr (inr (line_ends, few, is, refl)))
 ends_at j file texts ends used i call.UnknownAlign few is = inr (inr (inr (unknown_align, few, is, refl)))
+ends_at j file texts ends used i call.AxesMany few is = inr (inr (inr (axes_many, few, is, refl)))
 ends_at j file texts ends used i call.WidthRange few is = inr (inr (inr (width_range, few, is, refl)))
 ends_at j file texts ends used i call.BoxRange few is = inr (inr (inr (box_range, few, is, refl)))
 ends_at j file texts ends used i call.BoxSmall few is = inr (inr (inr (box_small, few, is, refl)))
@@ -109,6 +110,7 @@ stands_at IsOne used i call.FontLarge stands is = absurd (omega (arith, is))
 stands_at IsOne used i call.UnknownFit stands is = absurd (omega (arith, is))
 stands_at IsOne used i call.LineEnds stands is = absurd (omega (arith, is))
 stands_at IsOne used i call.UnknownAlign stands is = absurd (omega (arith, is))
+stands_at IsOne used i call.AxesMany stands is = absurd (omega (arith, is))
 stands_at IsOne used i call.WidthRange stands is = absurd (omega (arith, is))
 stands_at IsOne used i call.BoxRange stands is = absurd (omega (arith, is))
 stands_at IsOne used i call.BoxSmall stands is = absurd (omega (arith, is))
@@ -154,6 +156,8 @@ refused_itself j file texts ends from i call.LineEnds start order small enough i
     inr (inr ((rw start at order, small), enough, rw start at is))
 refused_itself j file texts ends from i call.UnknownAlign start order small enough is =
     inr (inr ((rw start at order, small), enough, rw start at is))
+refused_itself j file texts ends from i call.AxesMany start order small enough is =
+    inr (inr ((rw start at order, small), enough, rw start at is))
 refused_itself j file texts ends from i call.WidthRange start order small enough is =
     inr (inr ((rw start at order, small), enough, rw start at is))
 refused_itself j file texts ends from i call.BoxRange start order small enough is =
@@ -174,6 +178,7 @@ line_told j file texts ends from i call.FontLarge start stands = tt
 line_told j file texts ends from i call.UnknownFit start stands = tt
 line_told j file texts ends from i call.LineEnds start stands = tt
 line_told j file texts ends from i call.UnknownAlign start stands = tt
+line_told j file texts ends from i call.AxesMany start stands = tt
 line_told j file texts ends from i call.WidthRange start stands = tt
 line_told j file texts ends from i call.BoxRange start stands = tt
 line_told j file texts ends from i call.BoxSmall start stands = tt
@@ -201,6 +206,7 @@ refused_early j file texts ends call.FontLarge is = inr (inl (refused large, is,
 refused_early j file texts ends call.UnknownFit is = inr (inl (unknown_fit, is, refl))
 refused_early j file texts ends call.LineEnds is = inr (inl (line_ends, is, refl))
 refused_early j file texts ends call.UnknownAlign is = inr (inl (unknown_align, is, refl))
+refused_early j file texts ends call.AxesMany is = inr (inl (axes_many, is, refl))
 refused_early j file texts ends call.WidthRange is = inr (inl (width_range, is, refl))
 refused_early j file texts ends call.BoxRange is = inr (inl (box_range, is, refl))
 refused_early j file texts ends call.BoxSmall is = inr (inl (box_small, is, refl))
@@ -214,6 +220,7 @@ counts_none call.FontLarge = refl
 counts_none call.UnknownFit = refl
 counts_none call.LineEnds = refl
 counts_none call.UnknownAlign = refl
+counts_none call.AxesMany = refl
 counts_none call.WidthRange = refl
 counts_none call.BoxRange = refl
 counts_none call.BoxSmall = refl

@@ -9,7 +9,7 @@ use Rattle.tt_c_calls.specs.declared.pictures.CPicture.{CPicture}
 use Rattle.tt_c_calls.specs.Answers.{refusal_answer}
 use Rattle.tt_c_calls.specs.LineRooms.{AskedRoomIsEnough, DrawsInto, EndsRoom, IsLineAccepted, SmallerRoomIsRefused, TellsRoom, first_room, line_at, line_room, lines_room, most_bytes}
 use Rattle.tt_c_calls.specs.Lines.{AreLinesDrawn, DrawsLines, EndsWith, IsLineStopped, IsShown, IsStopped, cost_taken, line_bytes, lines_bytes, lines_wanted, start_of, stopped_answer}
-use Rattle.tt_c_calls.specs.Refusals.{Refusal, box_range, box_small, line_ends, not_utf8, refused, unknown_align, unknown_fit, width_range}
+use Rattle.tt_c_calls.specs.Refusals.{Refusal, axes_many, box_range, box_small, line_ends, not_utf8, refused, unknown_align, unknown_fit, width_range}
 use Rattle.tt_strike.specs.Refusals.{font, job, large}
 use Rattle.tt_c_calls.proofs.LinesDrawn.{shown_bytes}
 use Rattle.tt_c_calls.proofs.RoomAsked.{first_room_too}
@@ -124,6 +124,7 @@ refusal_stops (refused (font f)) is = absurd (omega (arith, is))
 refusal_stops (refused (job j)) is = absurd (omega (arith, is))
 refusal_stops (refused large) is = absurd (omega (arith, is))
 refusal_stops unknown_fit is = absurd (omega (arith, is))
+refusal_stops axes_many is = absurd (omega (arith, is))
 refusal_stops line_ends is = absurd (omega (arith, is))
 refusal_stops unknown_align is = absurd (omega (arith, is))
 refusal_stops width_range is = absurd (omega (arith, is))

@@ -152,7 +152,8 @@ job_short a =
     (either (a.number == 70) _ _ 89 (by_test (codes "tt_render: 70 BoxRange") 89 refl)
     (either (a.number == 71) _ _ 89 (by_test (codes "tt_render: 71 BoxSmall") 89 refl)
     (either (a.number == 72) _ _ 89 (by_test (codes "tt_render: 72 UnknownAlign") 89 refl)
-    (refusal_short (job_fault_of a.number))))))))
+    (either (a.number == 73) _ _ 89 (by_test (codes "tt_render: 73 AxesMany") 89 refl)
+    (refusal_short (job_fault_of a.number)))))))))
 
 room_short : (a : CAnswer) → AnswerFits a → length (room_message a) ≤ 89
 room_short a fits =

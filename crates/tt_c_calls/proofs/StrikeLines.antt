@@ -17,7 +17,7 @@ use Rattle.tt_picture.specs.Pictures.{IsReady, Picture, image_of}
 use Rattle.tt_strike.specs.Refusals.{Refused, as_font, as_job, font, job, large}
 use Rattle.tt_strike.specs.Strikes.{Strike, job_of}
 use Rattle.tt_face.specs.Faces.{Face}
-use Rattle.tt_face.specs.Files.{face_with}
+use Rattle.tt_face.specs.Instance.{Asked, face_at_instance}
 use Rattle.tt_c_calls.specs.declared.answer.CAnswer.{CAnswer}
 use Rattle.tt_c_calls.specs.declared.asked.CJob.{CJob}
 use Rattle.tt_c_calls.specs.declared.fault.CallFault.{CallFault}
@@ -25,11 +25,11 @@ use Rattle.tt_c_calls.specs.declared.line_drawing.CLine.{CLine}
 use Rattle.tt_c_calls.specs.declared.pictures.CPicture.{CPicture}
 use Rattle.tt_c_calls.specs.declared.fault.CallFault.TheVariants as call
 use Rattle.tt_c_calls.specs.Answers.{call_answer}
-use Rattle.tt_c_calls.specs.Asked.{IsAskedDefect, asked, grows, job_opening, text_asked}
+use Rattle.tt_c_calls.specs.Asked.{IsAskedDefect, asked, grows, job_instance, job_opening, text_asked}
 use Rattle.tt_c_calls.specs.Lines.{IsLineWritten, IsStrikeFor, IsTextStopped, is_blank, lines_wanted}
 use Rattle.tt_c_calls.specs.Pictures.{IsBandSmall, IsBandWritten, IsPictureOf, band_of, band_rows, picture_wanted}
 use Rattle.tt_render_settings.specs.Products.{IsMadeBy, picture_by}
-use Rattle.tt_c_calls.specs.Refusals.{Refusal, as_call, box_range, box_small, call_font_fault, call_refusal, line_ends, not_utf8, refused, unknown_align, unknown_fit, width_range}
+use Rattle.tt_c_calls.specs.Refusals.{Refusal, as_call, axes_many, box_range, box_small, call_font_fault, call_refusal, line_ends, not_utf8, refused, unknown_align, unknown_fit, width_range}
 
 -- a job tested twice is a job tested once
 twice : {X : Type 0} (t : Result (Unit {0}) JobFault) (f : Unit {0} → Result X Refused)
@@ -50,9 +50,9 @@ picture_tested false face a = twice (tested a) _
 picture_tested true face a = twice_grown (tested a) _ _ _
 
 -- a font whose tables were found is not too large
-record IsOpened (r : Opening) (file : List ℕ) (face : Face) : Type 0 where
+record IsOpened (r : Opening) (i : Option Asked) (file : List ℕ) (face : Face) : Type 0 where
   small : nat_lt font_limit (length file) ≡ false
-  face_of_file : face_with file r ≡ Ok face
+  face_of_file : face_at_instance file r i ≡ Ok face
 
 opened_of : (t : Result (Unit {0}) JobFault) (big : Bool) (r : Result Face Fault) (face : Face)
     → as_call (as_job t >>= λ u. if big then Err large else (as_font r >>= λ face. Ok face)) ≡ Ok face
@@ -62,11 +62,12 @@ opened_of (Ok u) true r face is = absurd cc
 opened_of (Ok u) false (Err f) face is = absurd cc
 opened_of (Ok u) false (Ok x) face is = (refl, cc)
 
-opened : (j : CJob) (file : List ℕ) (s : Strike) → IsStrikeFor j file s → IsOpened (job_opening j s.fit) file s.face
+opened : (j : CJob) (file : List ℕ) (s : Strike) → IsStrikeFor j file s
+    → IsOpened (job_opening j s.fit) (job_instance j) file s.face
 unfolding lines_wanted
 opened j file s for =
     let is = rw for.fit at for.face in
-    let facts = opened_of _ _ (face_with file (job_opening j s.fit)) s.face is in
+    let facts = opened_of _ _ (face_at_instance file (job_opening j s.fit) (job_instance j)) s.face is in
     record { small = facts.0; face_of_file = facts.1 }
 
 pub asked_by : (j : CJob) (file line t : List ℕ) (s : Strike) → IsStrikeFor j file s → text_asked line ≡ Ok t
@@ -125,6 +126,7 @@ line_stopped j file line left call.FontLarge other h = (other, inr (inl (refused
 line_stopped j file line left call.UnknownFit other h = (other, inr (inl (unknown_fit, h, refl)))
 line_stopped j file line left call.LineEnds other h = (other, inr (inl (line_ends, h, refl)))
 line_stopped j file line left call.UnknownAlign other h = (other, inr (inl (unknown_align, h, refl)))
+line_stopped j file line left call.AxesMany other h = (other, inr (inl (axes_many, h, refl)))
 line_stopped j file line left call.WidthRange other h = (other, inr (inl (width_range, h, refl)))
 line_stopped j file line left call.BoxRange other h = (other, inr (inl (box_range, h, refl)))
 line_stopped j file line left call.BoxSmall other h = (other, inr (inl (box_small, h, refl)))
@@ -139,6 +141,7 @@ not_done call.FontLarge is = absurd (omega arith)
 not_done call.UnknownFit is = absurd (omega arith)
 not_done call.LineEnds is = absurd (omega arith)
 not_done call.UnknownAlign is = absurd (omega arith)
+not_done call.AxesMany is = absurd (omega arith)
 not_done call.WidthRange is = absurd (omega arith)
 not_done call.BoxRange is = absurd (omega arith)
 not_done call.BoxSmall is = absurd (omega arith)

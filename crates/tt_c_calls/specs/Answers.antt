@@ -8,7 +8,7 @@ use Rattle.tt_strike.specs.Refusals.{font, job, large}
 use Rattle.tt_c_calls.specs.declared.answer.CAnswer.{CAnswer}
 use Rattle.tt_c_calls.specs.declared.fault.CallFault.{CallFault}
 use Rattle.tt_c_calls.specs.declared.fault.CallFault.TheVariants as call
-use Rattle.tt_c_calls.specs.Refusals.{Refusal, box_range, box_small, line_ends, not_utf8, refused, unknown_align, unknown_fit, width_range}
+use Rattle.tt_c_calls.specs.Refusals.{Refusal, axes_many, box_range, box_small, line_ends, not_utf8, refused, unknown_align, unknown_fit, width_range}
 
 -- an answer with nothing but a status and the number of a refusal
 abbrev pub plain_answer : ℕ → ℕ → CAnswer
@@ -45,6 +45,7 @@ refusal_answer (refused (font f)) = fault_answer f
 refusal_answer (refused (job j)) = job_answer j
 refusal_answer (refused large) = plain_answer 3 0
 refusal_answer unknown_fit = plain_answer 2 66
+refusal_answer axes_many = plain_answer 2 73
 refusal_answer line_ends = plain_answer 2 67
 refusal_answer unknown_align = plain_answer 2 72
 refusal_answer width_range = plain_answer 2 69
@@ -62,6 +63,7 @@ call_answer (call.Font f) = fault_answer f
 call_answer (call.Job j) = job_answer j
 call_answer call.FontLarge = plain_answer 3 0
 call_answer call.UnknownFit = plain_answer 2 66
+call_answer call.AxesMany = plain_answer 2 73
 call_answer call.LineEnds = plain_answer 2 67
 call_answer call.UnknownAlign = plain_answer 2 72
 call_answer call.WidthRange = plain_answer 2 69

@@ -8,7 +8,8 @@ use Rattle.tt_core.specs.Outcomes.{◌>>=◌}
 use Rattle.tt_face.specs.declared.rules.Opening.{Opening}
 use Rattle.tt_fit.specs.declared.programs.Fit.{Fit}
 use Rattle.tt_fit.specs.declared.programs.Fit.TheVariants as fit
-use Rattle.tt_face.specs.Files.{IsFaceDefectBy}
+use Rattle.tt_face.specs.Instance.{Asked, IsDefectAtInstance}
+use Rattle.tt_face.specs.Rules.{plain_opening}
 use Rattle.tt_metrics.specs.declared.heights.Heights.{Heights}
 use Rattle.tt_metrics.specs.declared.heights.Heights.TheVariants as heights
 use Rattle.tt_render_texts.specs.Readings.{fit_reading, reading_asked}
@@ -16,6 +17,7 @@ use Rattle.tt_strike.specs.Defects.{IsRunDefect}
 use Rattle.tt_strike.specs.Job.{Job, job_for}
 use Rattle.tt_c_calls.specs.declared.asked.CJob.{CJob}
 use Rattle.tt_c_calls.specs.Refusals.{Refusal, not_utf8, unknown_fit}
+use Rattle.tt_c_calls.specs.Variations.{axes_tested, instance_asked}
 
 -- the way to fit of a number
 unfoldable pub fit_asked : ℕ → Result Fit Refusal
@@ -30,10 +32,14 @@ fit_asked n =
 unfoldable pub text_asked : List ℕ → Result (List ℕ) Refusal
 text_asked text = if is_utf8 text then Ok text else Err not_utf8
 
--- the job of a text; the way to fit is tested first
+-- the way to fit of a job; the number of its values of axes is tested behind it
+unfoldable pub job_fit : CJob → Result Fit Refusal
+job_fit j = fit_asked j.fit >>= λ f. axes_tested j.axes >>= λ u. Ok f
+
+-- the job of a text; the way to fit and the number of values are tested first
 unfoldable pub asked : CJob → List ℕ → Result Job Refusal
 asked j text =
-    fit_asked j.fit >>= λ f.
+    job_fit j >>= λ f.
     text_asked text >>= λ t.
     Ok (job_for j.size f t j.margin)
 
@@ -68,13 +74,27 @@ job_opening j how = record {
   rules = record { heights = heights_asked j.rounded; kerned = not (j.kern == 0) };
 }
 
+-- the instance that the face of a job is opened at
+abbrev pub job_instance : CJob → Option Asked
+job_instance j = instance_asked j.instance j.axes j.axis
+
+-- how the face of a job is opened for calls that lay out no line
+abbrev pub plain_of : CJob → Fit → Opening
+plain_of j how = plain_opening (job_reading j how)
+
 -- a defect of a font that the job of a text meets
 abbrev pub IsAskedDefect : CJob → List ℕ → List ℕ → Fault → Type 0
-IsAskedDefect j text font f = IsOkAnd (asked j text) (λ a. IsRunDefect (job_opening j a.fit) a font f)
+IsAskedDefect j text font f = IsOkAnd (asked j text) (λ a. IsRunDefect (job_opening j a.fit) (job_instance j) a font f)
 
--- a defect of the tables that every text of a job needs
+-- a defect of the tables that every text of a job needs, or of those of its instance
+abbrev pub IsJobFaceDefect : CJob → Fit → List ℕ → Fault → Type 0
+IsJobFaceDefect j how font f = IsDefectAtInstance font (job_opening j how) (job_instance j) f
+
+abbrev pub IsPlainFaceDefect : CJob → Fit → List ℕ → Fault → Type 0
+IsPlainFaceDefect j how font f = IsDefectAtInstance font (plain_of j how) (job_instance j) f
+
 abbrev pub IsAskedFaceDefect : CJob → List ℕ → Fault → Type 0
-IsAskedFaceDefect j font f = IsOkAnd (fit_asked j.fit) (λ how. IsFaceDefectBy font (job_reading j how) f)
+IsAskedFaceDefect j font f = IsOkAnd (job_fit j) (λ how. IsJobFaceDefect j how font f)
 
 -- worked values
 by_its_programs : fit_asked 0 ≡ Ok fit.Full

@@ -4,7 +4,9 @@ use Rattle.tt_core.specs.declared.fault.JobFault.TheVariants as fault
 use Rattle.tt_core.specs.declared.fault.Why.TheVariants as why
 use Rattle.tt_core.specs.Faults.{Fault, fault_at, job_number, why_number}
 use Rattle.tt_core.specs.Outcomes.{◌>>=◌}
-use Rattle.tt_face.specs.Files.{face_by, IsFaceDefectBy}
+use Rattle.tt_face.specs.Faces.{Face}
+use Rattle.tt_face.specs.Instance.{face_at_instance}
+use Rattle.tt_fit.specs.declared.programs.Fit.{Fit}
 use Rattle.tt_fit.specs.Defects.{IsOutlineDefect}
 use Rattle.tt_glyphs.specs.declared.place.InkPlace.{InkPlace}
 use Rattle.tt_glyphs.specs.declared.told.GlyphEntry.{GlyphEntry}
@@ -23,7 +25,7 @@ use Rattle.tt_c_calls.specs.declared.answer.CAnswer.{CAnswer}
 use Rattle.tt_c_calls.specs.declared.asked.CJob.{CJob}
 use Rattle.tt_c_calls.specs.declared.glyph_bitmaps.CBitmap.{CBitmap}
 use Rattle.tt_c_calls.specs.Answers.{DefectStands, TellsRefusal, done_answer, room_answer}
-use Rattle.tt_c_calls.specs.Asked.{fit_asked, job_reading}
+use Rattle.tt_c_calls.specs.Asked.{IsPlainFaceDefect, job_fit, job_instance, plain_of}
 use Rattle.tt_c_calls.specs.Refusals.{Refusal, as_call}
 
 -- an entry with a status and the number of a refusal, and no bitmap
@@ -73,23 +75,27 @@ bitmap_by e (told.Made m) = bitmap_made e m
 abbrev pub bitmap_told : GlyphEntry → CBitmap
 bitmap_told e = bitmap_by e e.told
 
--- the bitmaps of a list by a font file. The way to fit, the size and the count are tested in this order, and then the
--- font's size
+-- the face of a list by a font file
+abbrev pub plain_face : List ℕ → CJob → Fit → Result Face Fault
+plain_face file j how = face_at_instance file (plain_of j how) (job_instance j)
+
+-- the bitmaps of a list by a font file. The way to fit, the number of values of axes, the size and the count are tested
+-- in this order, and then the font's size
 unfoldable pub bitmaps_wanted : CJob → List ℕ → List ℕ → Result Bitmaps Refusal
 bitmaps_wanted j glyphs font =
-    fit_asked j.fit >>= λ how. as_call (as_job (limits_tested glyphs j.size) >>= λ u. of_font (λ file.
-    as_font (face_by file (job_reading j how)) >>= λ face. bitmaps_in face (job_for glyphs j.size how)) font)
+    job_fit j >>= λ how. as_call (as_job (limits_tested glyphs j.size) >>= λ u. of_font (λ file.
+    as_font (plain_face file j how) >>= λ face. bitmaps_in face (job_for glyphs j.size how)) font)
 
 -- a defect of a font that refuses a whole list: of the tables that every text needs, or of the tables and programs that
 -- every glyph needs
 abbrev pub IsListDefect : CJob → List ℕ → Fault → Type 0
-IsListDefect j font f = IsOkAnd (fit_asked j.fit) (λ how. IsFaceDefectBy font (job_reading j how) f
-    ⊎ IsOkAnd (face_by font (job_reading j how)) (λ face. IsSettingDefect face (job_at j.size how) f))
+IsListDefect j font f = IsOkAnd (job_fit j) (λ how. IsPlainFaceDefect j how font f
+    ⊎ IsOkAnd (plain_face font j how) (λ face. IsSettingDefect face (job_at j.size how) f))
 
 -- a defect of one glyph of a list, or of a component reached from the glyph
 abbrev pub IsListGlyphDefect : CJob → List ℕ → List ℕ → ℕ → Fault → Type 0
-IsListGlyphDefect j glyphs font g f = IsOkAnd (fit_asked j.fit) (λ how.
-    IsOkAnd (face_by font (job_reading j how)) (λ face. IsOkAnd (setting face j.size how) (λ s.
+IsListGlyphDefect j glyphs font g f = IsOkAnd (job_fit j) (λ how.
+    IsOkAnd (plain_face font j how) (λ face. IsOkAnd (setting face j.size how) (λ s.
     IsOutlineDefect (line_fitter s (known s glyphs) g) g f)))
 
 -- if an entry refuses its glyph for a defect of the font, the defect has a property

@@ -1,26 +1,38 @@
 -- No part of the standard: a font opened by a call of C, and the faces of its file counted (profile).
-use Rattle.std.specs.Prelude.{◌≡◌, ◌≢◌, ℕ, List, Result, IsOkAnd}
+use Rattle.std.specs.Prelude.{◌≡◌, ◌≢◌, ℕ, List, Option, Result, IsOkAnd}
 use Rattle.tt_core.specs.Collections.{IsOffsetDefect, count_of}
 use Rattle.tt_core.specs.declared.collection.Reading.{Reading}
 use Rattle.tt_face.specs.declared.rules.Opening.{Opening}
 use Rattle.tt_core.specs.declared.collection.Reading.TheVariants as reading
-use Rattle.tt_face.specs.Files.{face_by, face_with, IsFaceDefectBy}
+use Rattle.tt_face.specs.Files.{face_by, IsFaceDefectBy}
+use Rattle.tt_face.specs.Instance.{Asked, face_at_instance}
+use Rattle.tt_fit.specs.declared.programs.Fit.{Fit}
 use Rattle.tt_metrics.specs.Metrics.{Metrics, ascent_of, descent_of, glyphs_of, line_gap_of, units_per_em_of}
 use Rattle.tt_render_run.specs.Outcome.{of_font}
 use Rattle.tt_strike.specs.Refusals.{as_font}
 use Rattle.tt_face.specs.Faces.{Face}
 use Rattle.tt_c_calls.specs.declared.answer.CAnswer.{CAnswer}
+use Rattle.tt_c_calls.specs.declared.asked.CJob.{CJob}
 use Rattle.tt_c_calls.specs.declared.opening.CFont.{CFont}
 use Rattle.tt_c_calls.specs.Answers.{DefectStands, TellsRefusal, done_answer}
+use Rattle.tt_c_calls.specs.Asked.{job_instance, job_opening, plain_of}
 use Rattle.tt_c_calls.specs.Refusals.{Refusal, as_call}
 
 -- the tables that every text needs, by a reading of a file that is not too large
 unfoldable pub face_wanted : Reading → List ℕ → Result Face Refusal
 face_wanted r font = as_call (of_font (λ file. as_font (face_by file r)) font)
 
--- the same tables with the rules of their lines
-unfoldable pub opened_wanted : Opening → List ℕ → Result Face Refusal
-opened_wanted o font = as_call (of_font (λ file. as_font (face_with file o)) font)
+-- the same tables at an instance, if one is requested, with the rules of their lines
+unfoldable pub opened_wanted : Opening → Option Asked → List ℕ → Result Face Refusal
+opened_wanted o i font = as_call (of_font (λ file. as_font (face_at_instance file o i)) font)
+
+-- the tables of a job with a way to fit
+abbrev pub job_opened : CJob → Fit → List ℕ → Result Face Refusal
+job_opened j how font = opened_wanted (job_opening j how) (job_instance j) font
+
+-- the same for calls that lay out no line
+abbrev pub plain_opened : CJob → Fit → List ℕ → Result Face Refusal
+plain_opened j how font = opened_wanted (plain_of j how) (job_instance j) font
 
 -- the figures of a font, for C
 abbrev pub font_told : Metrics → CFont

@@ -12,7 +12,7 @@ use Rattle.tt_strike.specs.Job.{Job}
 use Rattle.tt_c_calls.specs.declared.answer.CAnswer.{CAnswer}
 use Rattle.tt_c_calls.specs.declared.asked.CJob.{CJob}
 use Rattle.tt_c_calls.specs.Answers.{fault_answer, job_answer, room_answer}
-use Rattle.tt_c_calls.specs.Asked.{asked, job_opening}
+use Rattle.tt_c_calls.specs.Asked.{asked, job_instance, job_opening}
 use Rattle.tt_c_calls.specs.Messages.{WritesMessage, defect_of, message_of}
 use Rattle.tt_c_calls.specs.Pictures.{picture_wanted}
 use Rattle.tt_c_calls.specs.Refusals.{as_call}
@@ -50,7 +50,7 @@ ShortRoomsAreEnough = (told a : CAnswer) (before room : List ℕ) → AnswerFits
 -- without `grow` the file of the requested picture is the one that `run` writes, and is refused for the same reason
 abbrev pub PlainIsRun : Type 0
 PlainIsRun = (j : CJob) (text font : List ℕ) (a : Job) → j.grow ≡ 0 → asked j text ≡ Ok a
-    → as_file (picture_wanted j text font) ≡ as_call (run_outcome (job_opening j a.fit) a font)
+    → as_file (picture_wanted j text font) ≡ as_call (run_outcome (job_opening j a.fit) (job_instance j) a font)
 
 -- worked values: the message of the greatest counts, which is the longest of all; that of no count; and the longest one
 -- of a refused font

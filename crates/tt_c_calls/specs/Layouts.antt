@@ -1,5 +1,5 @@
 -- No part of the standard: the layout of a text without its ink, for C (profile).
-use Rattle.std.specs.Prelude.{◌≡◌, ◌≢◌, ℕ, pos, List, ◌++◌, length, drop, map, zip, Result, Ok}
+use Rattle.std.specs.Prelude.{◌≡◌, ◌≢◌, ℕ, pos, List, ◌++◌, length, drop, map, zip, None, Result, Ok}
 use Rattle.tt_core.specs.Outcomes.{◌>>=◌}
 use Rattle.tt_strike.specs.declared.layouts.Layout.{Layout}
 use Rattle.tt_strike.specs.declared.layouts.Pen.{Pen}
@@ -9,22 +9,22 @@ use Rattle.tt_c_calls.specs.declared.asked.CJob.{CJob}
 use Rattle.tt_c_calls.specs.declared.laying_out.CLayout.{CLayout}
 use Rattle.tt_c_calls.specs.declared.laying_out.CPen.{CPen}
 use Rattle.tt_c_calls.specs.Answers.{DefectStands, TellsRefusal, done_answer}
-use Rattle.tt_c_calls.specs.Asked.{IsAskedDefect, asked, job_opening}
+use Rattle.tt_c_calls.specs.Asked.{IsAskedDefect, asked, job_instance}
 use Rattle.tt_c_calls.specs.Maps.{selector_told}
 use Rattle.tt_c_calls.specs.Measures.{IsEntriesSmall}
 use Rattle.tt_c_calls.specs.Offsets.{offsets_asked}
-use Rattle.tt_c_calls.specs.Pictures.{made_of}
+use Rattle.tt_c_calls.specs.Pictures.{made_for}
 use Rattle.tt_c_calls.specs.Refusals.{Refusal, as_call}
 
 -- the layout of a text by a font file
 unfoldable pub layout_wanted : CJob → List ℕ → List ℕ → Result Layout Refusal
 layout_wanted j text font =
-    asked j text >>= λ a. as_call (made_of (λ face. layout_outcome face a) (job_opening j a.fit) a font)
+    asked j text >>= λ a. as_call (made_for (λ face. layout_outcome face a) j a font)
 
 -- the pens of a text by a font file
 unfoldable pub pens_wanted : CJob → List ℕ → List ℕ → Result (List Pen) Refusal
 pens_wanted j text font =
-    asked j text >>= λ a. as_call (made_of (λ face. pens_outcome face a) (job_opening j a.fit) a font)
+    asked j text >>= λ a. as_call (made_for (λ face. pens_outcome face a) j a font)
 
 -- a layout for C
 abbrev pub layout_told : Layout → CLayout
@@ -55,11 +55,11 @@ abbrev pub IsLayoutTold : CJob → List ℕ → List ℕ → CLayout → CAnswer
 IsLayoutTold j text font told a =
     (l : Layout) × (layout_wanted j text font ≡ Ok l) × (told ≡ layout_told l) × (a ≡ done_answer 0 0)
 
--- a call laid out a text, or says why not; only with best, whose number is 3, it took memory
+-- a call laid out a text, or says why not; only with best, whose number is 3, or at an instance it took memory
 pub record LaysOutText (j : CJob) (text font : List ℕ) (before told : CLayout) (a : CAnswer) : Type 0 where
   pub done : a.status ≡ 0 → IsLayoutTold j text font told a
   pub refused : a.status ≢ 0 → TellsRefusal (layout_wanted j text font) a
-  pub memory : j.fit ≢ 3 → a.status ≢ 5
+  pub memory : j.fit ≢ 3 → job_instance j ≡ None → a.status ≢ 5
   pub kept : a.status ≢ 0 → told ≡ before
   pub stands : DefectStands (IsAskedDefect j text font) a
 

@@ -1,5 +1,6 @@
 pub mod Refusals
 pub mod Answers
+pub mod Variations
 pub mod Asked
 pub mod Fonts
 pub mod Pictures

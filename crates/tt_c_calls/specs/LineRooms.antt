@@ -1,5 +1,5 @@
 -- No part of the standard: the room that the rows of lines need, asked for by a call of C (profile).
-use Rattle.std.specs.Prelude.{◌≡◌, ◌≢◌, refl, ℕ, ◌^◌, ◌<◌, ◌≤◌, if◌then◌else◌, min, List, [], ◌∷◌, length, take, get_or, Result, Ok, Err, ◌⊎◌}
+use Rattle.std.specs.Prelude.{◌≡◌, ◌≢◌, refl, ℕ, ◌^◌, ◌<◌, ◌≤◌, if◌then◌else◌, min, List, [], ◌∷◌, length, replicate, take, get_or, Result, Ok, Err, ◌⊎◌}
 use Rattle.std.specs.List.{sum_by}
 use Rattle.tt_core.specs.declared.fault.JobFault.TheVariants as fault
 use Rattle.tt_core.specs.Faults.{job_number}
@@ -14,6 +14,7 @@ use Rattle.tt_c_calls.specs.Answers.{done_answer, job_answer, memory_answer, pla
 use Rattle.tt_c_calls.specs.Lines.{DrawsTexts, IsLine, IsLinesDefect, LineDefectStands, cost_taken, first_taken, is_blank, line_between, lines_by, lines_wanted, start_of}
 use Rattle.tt_c_calls.specs.Pictures.{picture_wanted}
 use Rattle.tt_c_calls.specs.Refusals.{Refusal, line_ends, refused}
+use Rattle.tt_c_calls.specs.Variations.{no_axis}
 
 -- line i of some texts
 abbrev pub line_at : List ℕ → List ℕ → ℕ → List ℕ
@@ -107,7 +108,19 @@ no_line_needs_room : (j : CJob) (font texts : List ℕ) → first_room j font te
 no_line_needs_room j font texts = refl
 
 abbrev of_blanks : CJob
-of_blanks = record { size = 16; margin = 0; fit = 3; grow = 0; face = 0; kern = 0; rounded = 0; blank = 1 }
+of_blanks = record {
+  size = 16;
+  margin = 0;
+  fit = 3;
+  grow = 0;
+  face = 0;
+  kern = 0;
+  rounded = 0;
+  blank = 1;
+  instance = 0;
+  axes = 0;
+  axis = replicate 16 no_axis;
+}
 
 two_blank_lines_need_none : (font : List ℕ) → first_room of_blanks font [] (0 ∷ 0 ∷ []) 2 ≡ 0
 two_blank_lines_need_none font = refl

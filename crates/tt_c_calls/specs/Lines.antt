@@ -16,8 +16,8 @@ use Rattle.tt_c_calls.specs.declared.asked.CJob.{CJob}
 use Rattle.tt_c_calls.specs.declared.line_drawing.CLine.{CLine}
 use Rattle.tt_c_calls.specs.declared.pictures.CPicture.{CPicture}
 use Rattle.tt_c_calls.specs.Answers.{done_answer, fault_answer, job_answer, memory_answer, plain_answer, refusal_answer, room_answer}
-use Rattle.tt_c_calls.specs.Asked.{IsAskedDefect, IsAskedFaceDefect, asked, fit_asked, job_opening}
-use Rattle.tt_c_calls.specs.Pictures.{IsPictureOf, IsWritten, made_of, picture_told, picture_wanted}
+use Rattle.tt_c_calls.specs.Asked.{IsAskedDefect, IsAskedFaceDefect, asked, job_fit, job_instance, job_opening}
+use Rattle.tt_c_calls.specs.Pictures.{IsPictureOf, IsWritten, made_for, picture_told, picture_wanted}
 use Rattle.tt_c_calls.specs.Refusals.{Refusal, as_call, line_ends, unknown_fit}
 
 -- a line of texts, from one place up to another
@@ -47,7 +47,7 @@ blank_line at = record { picture = blank_picture; at = at }
 
 -- what a line takes of the budget of a call
 abbrev pub cost_asked : CJob → List ℕ → List ℕ → Result ℕ Refusal
-cost_asked j font line = asked j line >>= λ a. as_call (by_face cost_by (job_opening j a.fit) a font)
+cost_asked j font line = asked j line >>= λ a. as_call (by_face cost_by (job_opening j a.fit) (job_instance j) a font)
 
 -- a refused line takes nothing
 abbrev pub cost_taken : Result ℕ Refusal → ℕ
@@ -143,12 +143,12 @@ IsLineStopped j font texts from end left a =
     ((a ≡ refusal_answer line_ends) × ((end < from) ⊎ (length texts < end)))
     ⊎ ((from ≤ end) × (end ≤ length texts) × IsTextStopped j font (line_between texts from end) left a)
 
--- the tables of a font for lines: the way to fit is tested first, then the size and the margin, and then the font
+-- the tables of a font for lines: the way to fit and the number of values of axes are tested first, then the size and the
+-- margin, and then the font
 unfoldable pub lines_wanted : CJob → List ℕ → Result Face Refusal
 lines_wanted j font =
-    fit_asked j.fit >>= λ f.
-    as_call (made_of (λ face. Ok face) (job_opening j f)
-    (record { text = []; ppem = j.size; margin = j.margin; fit = f }) font)
+    job_fit j >>= λ f.
+    as_call (made_for (λ face. Ok face) j (record { text = []; ppem = j.size; margin = j.margin; fit = f }) font)
 
 -- the answer before any line is drawn: a refused way to fit, size, margin or font comes first, and then too small a room
 -- for the lines
@@ -177,7 +177,7 @@ IsStopped j font texts ends room used a =
 -- a font at a job's size and with its way to fit, for lines
 pub record IsStrikeFor (j : CJob) (font : List ℕ) (s : Strike) : Type 0 where
   pub face : lines_wanted j font ≡ Ok s.face
-  pub fit : fit_asked j.fit ≡ Ok s.fit
+  pub fit : job_fit j ≡ Ok s.fit
   pub size : s.ppem ≡ j.size
 
 -- the bytes of the cached glyphs at the end of a call: 0 where no strike was made, else those of one with this limit

@@ -14,21 +14,21 @@ use Rattle.tt_c_calls.specs.declared.measuring.CBox.{CBox}
 use Rattle.tt_c_calls.specs.declared.measuring.CCharacter.{CCharacter}
 use Rattle.tt_c_calls.specs.declared.measuring.CMeasure.{CMeasure}
 use Rattle.tt_c_calls.specs.Answers.{DefectStands, TellsRefusal, done_answer, room_answer}
-use Rattle.tt_c_calls.specs.Asked.{IsAskedDefect, asked, grows, job_opening}
+use Rattle.tt_c_calls.specs.Asked.{IsAskedDefect, asked, grows, job_instance, job_opening}
 use Rattle.tt_c_calls.specs.Offsets.{offsets_asked}
-use Rattle.tt_c_calls.specs.Pictures.{made_of}
+use Rattle.tt_c_calls.specs.Pictures.{made_for}
 use Rattle.tt_c_calls.specs.Refusals.{Refusal, as_call}
 
 -- the measure of a text by a font file
 unfoldable pub measure_wanted : CJob → List ℕ → List ℕ → Result Measure Refusal
 measure_wanted j text font =
-    asked j text >>= λ a. as_call (made_of (λ face. measure_by (grows j) face a) (job_opening j a.fit) a font)
+    asked j text >>= λ a. as_call (made_for (λ face. measure_by (grows j) face a) j a font)
 
 -- a measure is that of a text by a font file, and these of its glyphs are unfitted
 pub record IsMeasureOf (j : CJob) (text font : List ℕ) (m : Measure) (entries : List Unfitted) : Type 0 where
   pub measure : measure_wanted j text font ≡ Ok m
   pub unfitted : IsOkAnd (asked j text)
-      (λ a. ByFace (λ face a. report_by face a ≡ Ok entries) (job_opening j a.fit) a font)
+      (λ a. ByFace (λ face a. report_by face a ≡ Ok entries) (job_opening j a.fit) (job_instance j) a font)
 
 -- whether there is ink, and its box
 abbrev pub ink_told : Option InkBox → ℕ

@@ -47,6 +47,7 @@ job_message a =
     else if a.number == 70 then codes "tt_render: 70 BoxRange"
     else if a.number == 71 then codes "tt_render: 71 BoxSmall"
     else if a.number == 72 then codes "tt_render: 72 UnknownAlign"
+    else if a.number == 73 then codes "tt_render: 73 AxesMany"
     else refusal_text (job_fault_of a.number)
 
 abbrev pub room_message : CAnswer → List ℕ

@@ -1,8 +1,9 @@
 -- No part of the standard: the rows of a picture, for C (profile). Netpbm, "PBM", format P4, has the bytes of a row;
 -- each row begins with a new byte.
-use Rattle.std.specs.Prelude.{◌≡◌, ◌≢◌, refl, ℕ, ◌*◌, ◌-◌, ◌<◌, min, pos, ◌+ℤ◌, List, ◌++◌, length, take, drop, Result, Ok, IsOkAnd}
+use Rattle.std.specs.Prelude.{◌≡◌, ◌≢◌, refl, ℕ, ◌*◌, ◌-◌, ◌<◌, min, pos, ◌+ℤ◌, List, ◌++◌, length, take, drop, Option, Result, Ok, IsOkAnd}
 use Rattle.tt_core.specs.Bits.{stride}
 use Rattle.tt_face.specs.declared.rules.Opening.{Opening}
+use Rattle.tt_face.specs.Instance.{Asked}
 use Rattle.tt_core.specs.Outcomes.{◌>>=◌}
 use Rattle.tt_render_run.specs.Outcome.{of_font}
 use Rattle.tt_render_settings.specs.Products.{IsMadeBy, picture_by}
@@ -14,24 +15,28 @@ use Rattle.tt_c_calls.specs.declared.answer.CAnswer.{CAnswer}
 use Rattle.tt_c_calls.specs.declared.asked.CJob.{CJob}
 use Rattle.tt_c_calls.specs.declared.pictures.CPicture.{CPicture}
 use Rattle.tt_c_calls.specs.Answers.{DefectStands, TellsRefusal, done_answer, room_answer}
-use Rattle.tt_c_calls.specs.Asked.{IsAskedDefect, asked, grows, job_opening}
+use Rattle.tt_c_calls.specs.Asked.{IsAskedDefect, asked, grows, job_instance, job_opening}
 use Rattle.tt_c_calls.specs.Refusals.{Refusal, as_call}
 
 -- a result made from the tables of a font, after the tests of the job and then of the font's size
-abbrev pub made_of : {X : Type 0} → (Face → Result X Refused) → Opening → Job → List ℕ → Result X Refused
-made_of make r a font = as_job (tested a) >>= λ u. of_font (by_face (λ face j. make face) r a) font
+abbrev pub made_of : {X : Type 0} → (Face → Result X Refused) → Opening → Option Asked → Job → List ℕ → Result X Refused
+made_of make r i a font = as_job (tested a) >>= λ u. of_font (by_face (λ face j. make face) r i a) font
+
+-- the same for a C job, whose text is that of `a`
+abbrev pub made_for : {X : Type 0} → (Face → Result X Refused) → CJob → Job → List ℕ → Result X Refused
+made_for make j a font = made_of make (job_opening j a.fit) (job_instance j) a font
 
 -- the image of the picture of a text by a font file
 unfoldable pub picture_wanted : CJob → List ℕ → List ℕ → Result Image Refusal
 picture_wanted j text font =
-    asked j text >>= λ a. as_call (made_of (λ face. picture_by (grows j) face a) (job_opening j a.fit) a font)
+    asked j text >>= λ a. as_call (made_for (λ face. picture_by (grows j) face a) j a font)
 
 -- a picture is that of a text by a font file
 pub record IsPictureOf (j : CJob) (text font : List ℕ) (p : Picture) : Type 0 where
   pub image : picture_wanted j text font ≡ Ok (image_of p)
   pub ready : IsReady p
   pub made : IsOkAnd (asked j text)
-      (λ a. ByFace (λ face a. IsMadeBy (grows j) a p face) (job_opening j a.fit) a font)
+      (λ a. ByFace (λ face a. IsMadeBy (grows j) a p face) (job_opening j a.fit) (job_instance j) a font)
 
 -- a picture for C
 abbrev pub picture_told : Picture → CPicture

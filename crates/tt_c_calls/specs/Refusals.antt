@@ -7,12 +7,13 @@ use Rattle.tt_core.specs.declared.draw_fault.DrawFault.TheVariants as draw
 use Rattle.tt_c_calls.specs.declared.fault.CallFault.{CallFault}
 use Rattle.tt_c_calls.specs.declared.fault.CallFault.TheVariants as call
 
--- the font or the job is refused as `run` refuses it; the way to fit has an unknown number; a line ends past the texts
--- or before it begins; the alignment has an unknown number; the width or the box of a label is out of its range, or
+-- the font or the job is refused as `run` refuses it; the way to fit has an unknown number; a job has too many values of
+-- axes; a line ends past the texts or before it begins; the alignment has an unknown number; the width or the box of a label is out of its range, or
 -- leaves no room between the margins; a text fits into its box at no size; the text is not UTF-8
 pub data Refusal : Type 0 where
   refused : Refused → Refusal
   unknown_fit : Refusal
+  axes_many : Refusal
   line_ends : Refusal
   unknown_align : Refusal
   width_range : Refusal
@@ -30,6 +31,7 @@ call_refusal (call.Font f) = Some (refused (font f))
 call_refusal (call.Job j) = Some (refused (job j))
 call_refusal call.FontLarge = Some (refused large)
 call_refusal call.UnknownFit = Some unknown_fit
+call_refusal call.AxesMany = Some axes_many
 call_refusal call.LineEnds = Some line_ends
 call_refusal call.UnknownAlign = Some unknown_align
 call_refusal call.WidthRange = Some width_range

@@ -27,10 +27,10 @@ pub struct CAnswer {
 }
 
 /// The call is done.
-pub(crate) const DONE: u32 = 0;
+pub const DONE: u32 = 0;
 
 /// The caller's room is too small.
-pub(crate) const ROOM: u32 = 7;
+pub const ROOM: u32 = 7;
 
 /// An answer with nothing but a status and the number of a refusal.
 fn plain(status: u32, number: u32) -> CAnswer
@@ -48,7 +48,7 @@ fn plain(status: u32, number: u32) -> CAnswer
 
 /// The answer of a call about `bytes` bytes and `count` rows, entries or lines. With DONE they are written; with ROOM the
 /// caller's room is too small for them.
-pub(crate) fn sized(status: u32, bytes: u64, count: u64) -> CAnswer
+pub fn sized(status: u32, bytes: u64, count: u64) -> CAnswer
     ensures { result ≡ sized_answer status bytes count }
 {
     CAnswer {
@@ -85,6 +85,7 @@ pub fn answer_of(fault: CallFault) -> CAnswer
         CallFault::UnknownFit => plain(2, 66),
         CallFault::LineEnds => plain(2, 67),
         CallFault::UnknownAlign => plain(2, 72),
+        CallFault::AxesMany => plain(2, 73),
         CallFault::WidthRange => plain(2, 69),
         CallFault::BoxRange => plain(2, 70),
         CallFault::BoxSmall => plain(2, 71),

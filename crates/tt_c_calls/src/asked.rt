@@ -3,11 +3,12 @@
 ghost use Rattle.std.specs.Prelude.{◌≡◌, ◌≢◌, not, ◌||◌, ◌==◌, IfErr, IfOk};
 ghost use Rattle.tt_core.specs.Outcomes.{GivesUnless};
 ghost use Rattle.tt_strike.specs.Job.{job_view};
-ghost use Rattle.tt_c_calls.specs.Asked.{asked, face_named, face_reading, fit_asked, grows, heights_asked, job_opening, job_reading, reads_widely, text_asked};
+ghost use Rattle.tt_c_calls.specs.Asked.{asked, face_named, face_reading, fit_asked, grows, heights_asked, job_fit, job_instance, job_opening, job_reading, reads_widely, text_asked};
 ghost use Rattle.tt_c_calls.specs.declared.fault.CallFault.TheVariants as call;
 ghost use Rattle.tt_c_calls.specs.Refusals.{call_refusal};
 
 use crate::fault::CallFault;
+use crate::variation::{AXES_MOST, CAxis, JobInstance, test_axes};
 use std::str;
 use tt_core::Reading;
 use tt_face::{Heights, LineRules, Opening};
@@ -37,6 +38,12 @@ pub struct CJob {
     pub rounded: u32,
     /// Not 0 so that of lines drawn one after the other, one without a byte is blank, and never refused.
     pub blank: u32,
+    /// k + 1 for the font's named instance k. 0 for its default.
+    pub instance: u32,
+    /// How many of `axis` count, 0 to 16.
+    pub axes: u32,
+    /// Values of axes, in order, after those of the named instance.
+    pub axis: [CAxis; AXES_MOST],
 }
 
 /// A request: a text, the font that draws it, and how.
@@ -82,6 +89,25 @@ impl CJob {
             rules,
         }
     }
+
+    /// The way to fit, once the number of values of axes is tested. Errors, the first of: UnknownFit, AxesMany.
+    #[tactic(auto, unfolding(crate::specs::Asked::job_fit))]
+    pub fn tested_fit(&self) -> Result<Fit, CallFault>
+        ensures exact { GivesUnless call_refusal (λ f. f) result (job_fit self.now) }
+        ensures memory { IfErr result (λ f. f ≢ call.Memory) }
+    {
+        let fit = fit_of(self.fit)?;
+        test_axes(self.axes)?;
+        Ok(fit)
+    }
+
+    /// The instance that the face is opened at.
+    pub(crate) fn asked_instance(&self) -> JobInstance
+        ensures { result ≡ job_instance self.now }
+    {
+        let axis = self.axis;
+        JobInstance::new(self.instance, self.axes, &axis)
+    }
 }
 
 /// How heights are rounded, by a number that is 0 or not.
@@ -106,7 +132,7 @@ fn face_named(number: u32) -> Option<u32>
 }
 
 /// The reading of a call that takes a face and no job.
-pub(crate) fn face_reading(number: u32) -> Reading
+pub fn face_reading(number: u32) -> Reading
     ensures { result ≡ face_reading number }
 {
     reading_asked(face_named(number), Reading::Strict)
@@ -139,14 +165,13 @@ pub fn text_of(bytes: &[u8]) -> Result<&str, CallFault>
     }
 }
 
-/// The job of a text. Errors, the first of: UnknownFit, NotUtf8.
+/// The job of a text. Errors, the first of: UnknownFit, AxesMany, NotUtf8.
 #[tactic(auto, unfolding(crate::specs::Asked::asked))]
 pub(crate) fn job_of<'t>(job: &CJob, text: &'t [u8]) -> Result<Job<'t>, CallFault>
     ensures exact { GivesUnless call_refusal job_view result (asked job.now text.now) }
-    ensures opening { IfOk result (λ a. a.opening ≡ job_opening job.now a.fit) }
     ensures memory { IfErr result (λ f. f ≢ call.Memory) }
 {
-    let fit = fit_of(job.fit)?;
+    let fit = job.tested_fit()?;
     let text = text_of(text)?;
     Ok(Setting::plain(job.size, job.margin, fit, job.opening(fit)).job(text))
 }

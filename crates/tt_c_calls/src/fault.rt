@@ -20,6 +20,8 @@ pub enum CallFault {
     UnknownFit,
     /// A line ends past the texts, or before it begins.
     LineEnds,
+    /// A job has more than 16 values of axes.
+    AxesMany,
     /// The alignment has an unknown number.
     UnknownAlign,
     /// The width of a label is out of its range, or leaves no column between the margins.

@@ -6,9 +6,9 @@ ghost use Rattle.tt_c_calls.specs.Bitmaps.{DrawsGlyphs, EntryStands, IsListDefec
 ghost use Rattle.tt_c_calls.specs.Refusals.{call_font_fault, call_refusal};
 
 use crate::answer::{CAnswer, DONE, ROOM, answer_of, sized};
-use crate::asked::{CJob, fit_of};
+use crate::asked::CJob;
 use crate::fault::CallFault;
-use crate::opening::face_of;
+use crate::opening::plain_face;
 use std::alloc::Global;
 use tt_core::{Fault, JobFault};
 use tt_glyphs::{BitmapList, GlyphEntry, MadeBitmap, Told, test_count};
@@ -113,7 +113,7 @@ fn bitmap_of(entry: &GlyphEntry) -> CBitmap
     }
 }
 
-/// The bitmaps of a list by a font file. Errors, the first of: UnknownFit; SizeRange, TextLong; FontLarge; those of the
+/// The bitmaps of a list by a font file. Errors, the first of: UnknownFit, AxesMany; SizeRange, TextLong; FontLarge; those of the
 /// tables that every text needs; those of `BitmapList::make`.
 #[tactic(auto, unfolding(crate::specs::Bitmaps::bitmaps_wanted))]
 fn list_of(alloc: Global, font: &[u8], glyphs: &[u32], job: &CJob) -> Result<BitmapList, CallFault>
@@ -122,12 +122,12 @@ fn list_of(alloc: Global, font: &[u8], glyphs: &[u32], job: &CJob) -> Result<Bit
     ensures defects { IfTold call_font_fault result (IsListDefect job.now font.now) }
     ensures stands { IfOk result (λ b. All (λ e. EntryStands (IsListGlyphDefect job.now glyphs.now font.now) (bitmap_told e)) b.entries) }
 {
-    let fit = fit_of(job.fit)?;
-    let reading = job.reading(fit);
+    let fit = job.tested_fit()?;
+    let opening = Opening::plain(job.reading(fit));
     // The job of a list has no margin, and a text of no characters is never too long.
-    test_job(&Setting::plain(job.size, 0, fit, Opening::plain(reading)).job(""))?;
+    test_job(&Setting::plain(job.size, 0, fit, opening).job(""))?;
     test_count(glyphs)?;
-    let face = face_of(font, reading)?;
+    let face = plain_face(font, job, fit)?;
     Ok(BitmapList::make(alloc, &face, glyphs, job.size, fit)?)
 }
 
@@ -143,11 +143,11 @@ fn write_entries(entries: &[GlyphEntry], told: &mut [CBitmap])
 
 /// Makes the bitmap of each glyph of a list. Each place of the list gets an entry. `rows` gets the rows of
 /// each number where the number stands first, one glyph after the other. An entry whose number stood before is equal to
-/// the first one. Of the job the size, the way to fit and the face count.
+/// the first one. Of the job the size, the way to fit, the face and the instance count.
 ///
 /// Answers, the first of these:
 /// - the room for `told` is too small; `count` is that of the list;
-/// - the way to fit, the size or the count is refused, the font is too large or refused, or the list is too much work;
+/// - the way to fit, the number of values of axes, the size or the count is refused, the font is too large or refused, or the list is too much work;
 /// - memory was refused;
 /// - the room for `rows` is too small; with the bytes needed and the count of the list;
 /// - done, with the bytes of all rows and the count of the list.

@@ -1,8 +1,8 @@
 //! A text laid out without its ink.
 
-ghost use Rattle.std.specs.Prelude.{◌≡◌, ◌≢◌, length, map, IfErr, IfOk};
+ghost use Rattle.std.specs.Prelude.{◌≡◌, ◌≢◌, length, map, IfErr, IfOk, None};
 ghost use Rattle.tt_core.specs.Outcomes.{GivesUnless, IfTold};
-ghost use Rattle.tt_c_calls.specs.Asked.{IsAskedDefect};
+ghost use Rattle.tt_c_calls.specs.Asked.{IsAskedDefect, job_instance};
 ghost use Rattle.tt_c_calls.specs.declared.fault.CallFault.TheVariants as call;
 ghost use Rattle.tt_c_calls.specs.Layouts.{ArePensTold, LaysOutText, PlacesPens, layout_told, layout_wanted, pen_told, pens_wanted};
 ghost use Rattle.tt_c_calls.specs.Measures.{IsEntriesSmall};
@@ -14,7 +14,7 @@ use crate::asked::{TextRequest, job_of};
 use crate::fault::CallFault;
 use crate::mapping::selector_of;
 use crate::offsets::offsets_of;
-use crate::opening::opened_face;
+use crate::opening::job_face;
 use std::alloc::Global;
 use tt_strike::{Layout, Pen, SizedFace, TextPens, test_job};
 
@@ -95,24 +95,25 @@ fn pen_of(pen: &Pen, offset: usize) -> CPen
     }
 }
 
-/// The layout of a text by a font file. Errors, the first of: UnknownFit, NotUtf8; SizeRange, MarginRange, TextLong;
+/// The layout of a text by a font file. Errors, the first of: UnknownFit, AxesMany, NotUtf8; SizeRange, MarginRange, TextLong;
 /// FontLarge; those of the tables that every text needs; those of `SizedFace::layout`.
 #[tactic(auto, unfolding(crate::specs::Layouts::layout_wanted))]
 fn laid_out(alloc: Global, request: &TextRequest) -> Result<Layout, CallFault>
     ensures exact { GivesUnless call_refusal (λ l. l) result (layout_wanted request.now.job.now request.now.text.now request.now.font.now) }
-    ensures memory { request.now.job.now.fit ≢ 3 → IfErr result (λ f. f ≢ call.Memory) }
+    ensures memory { request.now.job.now.fit ≢ 3 → job_instance request.now.job.now ≡ None → IfErr result (λ f. f ≢ call.Memory) }
     ensures defects { IfTold call_font_fault result (IsAskedDefect request.now.job.now request.now.text.now request.now.font.now) }
 {
     let asked = job_of(request.job, request.text)?;
     test_job(&asked)?;
-    let face = opened_face(request.font, asked.opening)?;
+    let face = job_face(request.font, request.job, asked.fit)?;
     let mut sized = SizedFace::new(alloc, &face, asked.ppem, asked.fit)?;
     Ok(sized.layout(asked.text, asked.margin)?)
 }
 
 /// Lays out a text: the size of the picture that does not grow, its base line, and its distance from a next line.
 /// Answers: done; the font is refused, too large, or the job refused; memory was refused; the text is not UTF-8. Unless
-/// the answer is done, `told` is unchanged. Only with `Fit::Best` is memory taken, and are glyphs made.
+/// the answer is done, `told` is unchanged. Only with `Fit::Best` are glyphs made. Memory is taken with
+/// `Fit::Best` and at an instance.
 pub fn layout(alloc: Global, request: &TextRequest, told: &mut CLayout) -> CAnswer
     ensures { LaysOutText request.now.job.now request.now.text.now request.now.font.now told.old told.new result }
 {
@@ -125,7 +126,7 @@ pub fn layout(alloc: Global, request: &TextRequest, told: &mut CLayout) -> CAnsw
     }
 }
 
-/// The pens of a text by a font file, and their offsets. Errors, the first of: UnknownFit, NotUtf8; SizeRange, MarginRange, TextLong;
+/// The pens of a text by a font file, and their offsets. Errors, the first of: UnknownFit, AxesMany, NotUtf8; SizeRange, MarginRange, TextLong;
 /// FontLarge; those of the tables that every text needs; those of `SizedFace::pens`.
 #[tactic(auto, unfolding(crate::specs::Layouts::pens_wanted))]
 fn pens_of(alloc: Global, request: &TextRequest) -> Result<PlacedPens, CallFault>
@@ -136,7 +137,7 @@ fn pens_of(alloc: Global, request: &TextRequest) -> Result<PlacedPens, CallFault
 {
     let asked = job_of(request.job, request.text)?;
     test_job(&asked)?;
-    let face = opened_face(request.font, asked.opening)?;
+    let face = job_face(request.font, request.job, asked.fit)?;
     let mut sized = SizedFace::new(alloc, &face, asked.ppem, asked.fit)?;
     let placed = sized.pens(asked.text, asked.margin)?;
     let TextPens { pens, .. } = placed;

@@ -6,9 +6,9 @@ ghost use Rattle.tt_c_calls.specs.Asked.{IsAskedDefect};
 ghost use Rattle.tt_c_calls.specs.Lines.{DrawsLines, DrawsTexts, EndsWith, IsCachedAtEnd, IsLineWritten, IsLinesDefect, IsStrikeFor, IsTextStopped, LineDefectStands, blank_line, is_blank, stopped_answer};
 
 use crate::answer::{CAnswer, DONE, ROOM, answer_of, sized};
-use crate::asked::{CJob, fit_of, text_of};
+use crate::asked::{CJob, text_of};
 use crate::fault::CallFault;
-use crate::opening::opened_face;
+use crate::opening::job_face;
 use crate::pictures::{CPicture, told_of, write_band};
 use std::alloc::Global;
 use tt_core::JobFault;
@@ -162,7 +162,7 @@ fn draw_by(
 /// cached at its end.
 ///
 /// Answers, the first of these, where all bytes and entries after the drawn lines are unchanged:
-/// - the way to fit, the size or the margin is refused, or the font is too large or refused; no line is drawn;
+/// - the way to fit, the number of values of axes, the size or the margin is refused, or the font is too large or refused; no line is drawn;
 /// - the room for `lines` is too small; no line is drawn, and `count` is the number of all lines;
 /// - memory was refused; no line is drawn;
 /// - the answer of the line that stopped the call, with the number of the lines before it and the bytes of their rows.
@@ -185,16 +185,16 @@ pub fn draw_lines(
     ensures most { result.1 ≤ keep }
 {
     let ends = texts.ends;
-    let fit = match fit_of(job.fit) {
+    let fit = match job.tested_fit() {
         Ok(fit) => fit,
         Err(fault) => return (answer_of(fault), 0),
     };
-    let opening = job.opening(fit);
     // A text of no characters is never too long.
-    if let Err(fault) = test_job(&Setting::plain(job.size, job.margin, fit, opening).job("")) {
+    let setting = Setting::plain(job.size, job.margin, fit, job.opening(fit));
+    if let Err(fault) = test_job(&setting.job("")) {
         return (answer_of(CallFault::Job(fault)), 0);
     }
-    let face = match opened_face(font, opening) {
+    let face = match job_face(font, job, fit) {
         Ok(face) => face,
         Err(fault) => return (answer_of(fault), 0),
     };

@@ -28,7 +28,8 @@ pub struct CGlyph {
     pub selector: u32,
 }
 
-pub(crate) fn selector_of(selector: Option<char>) -> u32
+/// The selector of a unit, 0 without one.
+pub fn selector_of(selector: Option<char>) -> u32
     ensures { result ≡ selector_told selector }
 {
     match selector {

@@ -13,7 +13,7 @@ use crate::answer::{CAnswer, DONE, ROOM, answer_of, sized};
 use crate::asked::{TextRequest, job_of, text_of};
 use crate::fault::CallFault;
 use crate::offsets::offsets_of;
-use crate::opening::opened_face;
+use crate::opening::job_face;
 use std::alloc::Global;
 use tt_render_lines::make_measure;
 use tt_strike::{CharacterMeasure, InkBox, Measure, Strike, test_job};
@@ -116,7 +116,7 @@ fn measure_of(measure: &Measure) -> CMeasure
     }
 }
 
-/// The measure of a text by a font file. Errors, the first of: UnknownFit, NotUtf8; SizeRange, MarginRange, TextLong;
+/// The measure of a text by a font file. Errors, the first of: UnknownFit, AxesMany, NotUtf8; SizeRange, MarginRange, TextLong;
 /// FontLarge; those of the tables that every text needs; those of `make_measure`.
 #[tactic(auto, unfolding(crate::specs::Measures::measure_wanted))]
 fn measured(alloc: Global, request: &TextRequest) -> Result<Measure, CallFault>
@@ -126,7 +126,7 @@ fn measured(alloc: Global, request: &TextRequest) -> Result<Measure, CallFault>
 {
     let asked = job_of(request.job, request.text)?;
     test_job(&asked)?;
-    let face = opened_face(request.font, asked.opening)?;
+    let face = job_face(request.font, request.job, asked.fit)?;
     let mut strike = Strike::new(alloc, &face, asked.ppem, asked.fit, 0)?;
     let measure = make_measure(&mut strike, request.job.grows(), asked.text, asked.margin)?;
     Ok(measure)

@@ -70,6 +70,7 @@ fn job_text(alloc: Global, told: &CAnswer) -> Result<String, AllocError>
         70 => String::from_str(alloc, "tt_render: 70 BoxRange"),
         71 => String::from_str(alloc, "tt_render: 71 BoxSmall"),
         72 => String::from_str(alloc, "tt_render: 72 UnknownAlign"),
+        73 => String::from_str(alloc, "tt_render: 73 AxesMany"),
         number => match JobFault::of(number) {
             Some(fault) => line(alloc, &RunFault::Job(fault)),
             None => String::from_str(alloc, "tt_render: no such answer"),

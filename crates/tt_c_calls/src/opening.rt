@@ -1,20 +1,24 @@
 //! A font opened, and the faces of its file counted.
 
-ghost use Rattle.std.specs.Prelude.{◌≢◌, IfErr};
+ghost use Rattle.std.specs.Prelude.{◌≢◌, IfErr, option_map};
 ghost use Rattle.tt_core.specs.Collections.{IsOffsetDefect};
 ghost use Rattle.tt_core.specs.declared.collection.Reading.TheVariants as reading;
 ghost use Rattle.tt_core.specs.Outcomes.{GivesUnless};
 ghost use Rattle.tt_face.specs.Files.{IsFaceDefectBy};
+ghost use Rattle.tt_face.specs.Instance.{IsDefectAtInstance};
+ghost use Rattle.tt_face.specs.Views.{asked_view};
 ghost use Rattle.tt_strike.specs.Defects.{TellsDefects};
-ghost use Rattle.tt_c_calls.specs.Asked.{face_reading};
-ghost use Rattle.tt_c_calls.specs.Fonts.{CountsFaces, OpensFont, count_wanted, face_wanted, opened_wanted};
+ghost use Rattle.tt_c_calls.specs.Asked.{IsJobFaceDefect, IsPlainFaceDefect, face_reading};
+ghost use Rattle.tt_c_calls.specs.Fonts.{CountsFaces, OpensFont, count_wanted, face_wanted, job_opened, opened_wanted, plain_opened};
 ghost use Rattle.tt_c_calls.specs.declared.fault.CallFault.TheVariants as call;
 ghost use Rattle.tt_c_calls.specs.Refusals.{call_font_fault, call_refusal};
 
 use crate::answer::{CAnswer, DONE, answer_of, sized};
-use crate::asked::face_reading;
+use crate::asked::{CJob, face_reading};
 use crate::fault::CallFault;
 use tt_core::{FONT_LIMIT, Reading, face_count};
+use tt_face::AskedInstance;
+use tt_fit::Fit;
 use tt_strike::{Face, Opening};
 
 /// The figures of a font.
@@ -36,7 +40,7 @@ pub struct CFont {
 /// The tables that every text needs, by a reading of a font file. Errors: FontLarge, and those of the directory and of
 /// its place, of head, maxp, hhea and hmtx, and of cmap.
 #[tactic(auto, unfolding(crate::specs::Fonts::face_wanted))]
-pub(crate) fn face_of<'a>(font: &'a [u8], reading: Reading) -> Result<Face<'a>, CallFault>
+pub fn face_of<'a>(font: &'a [u8], reading: Reading) -> Result<Face<'a>, CallFault>
     ensures exact { GivesUnless call_refusal (λ f. f) result (face_wanted reading font.now) }
     ensures defects { TellsDefects call_font_fault (IsFaceDefectBy font.now reading) result }
     ensures memory { IfErr result (λ f. f ≢ call.Memory) }
@@ -50,15 +54,46 @@ pub(crate) fn face_of<'a>(font: &'a [u8], reading: Reading) -> Result<Face<'a>, 
     }
 }
 
-/// The tables that every text needs, with the rules of its lines. Errors: as `face_of`.
-pub fn opened_face<'a>(font: &'a [u8], opening: Opening) -> Result<Face<'a>, CallFault>
-    ensures exact { GivesUnless call_refusal (λ f. f) result (opened_wanted opening font.now) }
-    ensures defects { TellsDefects call_font_fault (IsFaceDefectBy font.now opening.reading) result }
+/// The tables that every text needs, at an instance if one is requested, with the rules of its lines. Errors: as
+/// `face_of`, and those of the instance.
+#[tactic(auto, unfolding(crate::specs::Fonts::opened_wanted))]
+pub fn opened_face<'a>(
+    font: &'a [u8],
+    opening: Opening,
+    instance: Option<AskedInstance>,
+) -> Result<Face<'a>, CallFault>
+    ensures exact { GivesUnless call_refusal (λ f. f) result (opened_wanted opening (option_map asked_view instance.entry) font.now) }
+    ensures defects { TellsDefects call_font_fault (IsDefectAtInstance font.now opening (option_map asked_view instance.entry)) result }
     ensures memory { IfErr result (λ f. f ≢ call.Memory) }
 {
-    let mut face = face_of(font, opening.reading)?;
-    face.set_rules(opening.rules);
-    Ok(face)
+    let is_large = font.len() > FONT_LIMIT;
+    if is_large {
+        return Err(CallFault::FontLarge);
+    }
+    match Face::read_at(font, opening, instance) {
+        Ok(face) => Ok(face),
+        Err(fault) => Err(CallFault::Font(fault)),
+    }
+}
+
+/// The tables of a job with a way to fit, with the rules of its lines. Errors: as `opened_face`.
+pub(crate) fn job_face<'a>(font: &'a [u8], job: &CJob, fit: Fit) -> Result<Face<'a>, CallFault>
+    ensures exact { GivesUnless call_refusal (λ f. f) result (job_opened job.now fit font.now) }
+    ensures defects { TellsDefects call_font_fault (IsJobFaceDefect job.now fit font.now) result }
+    ensures memory { IfErr result (λ f. f ≢ call.Memory) }
+{
+    let instance = job.asked_instance();
+    opened_face(font, job.opening(fit), instance.asked())
+}
+
+/// The tables of a job with a way to fit, with the plain rules of lines. Errors: as `opened_face`.
+pub fn plain_face<'a>(font: &'a [u8], job: &CJob, fit: Fit) -> Result<Face<'a>, CallFault>
+    ensures exact { GivesUnless call_refusal (λ f. f) result (plain_opened job.now fit font.now) }
+    ensures defects { TellsDefects call_font_fault (IsPlainFaceDefect job.now fit font.now) result }
+    ensures memory { IfErr result (λ f. f ≢ call.Memory) }
+{
+    let instance = job.asked_instance();
+    opened_face(font, Opening::plain(job.reading(fit)), instance.asked())
 }
 
 /// Tests the tables that every text needs, and writes the font's figures. The face is as in a job. Answers: done; the font

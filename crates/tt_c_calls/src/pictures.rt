@@ -13,7 +13,7 @@ ghost use Rattle.tt_c_calls.specs.Refusals.{call_font_fault, call_refusal};
 use crate::answer::{CAnswer, DONE, ROOM, sized};
 use crate::asked::{TextRequest, job_of};
 use crate::fault::CallFault;
-use crate::opening::opened_face;
+use crate::opening::job_face;
 use std::alloc::Global;
 use tt_render_lines::make_picture;
 use tt_strike::{Picture, Strike, test_job};
@@ -54,7 +54,7 @@ pub fn told_of(picture: &Picture) -> CPicture
     }
 }
 
-/// The picture of a text by a font file. Errors, the first of: UnknownFit, NotUtf8; SizeRange, MarginRange, TextLong;
+/// The picture of a text by a font file. Errors, the first of: UnknownFit, AxesMany, NotUtf8; SizeRange, MarginRange, TextLong;
 /// FontLarge; those of the tables that every text needs; those of `make_picture`.
 #[tactic(auto, unfolding(crate::specs::Pictures::picture_wanted))]
 pub(crate) fn picture_of(alloc: Global, request: &TextRequest) -> Result<Picture, CallFault>
@@ -64,7 +64,7 @@ pub(crate) fn picture_of(alloc: Global, request: &TextRequest) -> Result<Picture
 {
     let asked = job_of(request.job, request.text)?;
     test_job(&asked)?;
-    let face = opened_face(request.font, asked.opening)?;
+    let face = job_face(request.font, request.job, asked.fit)?;
     let mut strike = Strike::new(alloc, &face, asked.ppem, asked.fit, 0)?;
     let picture = make_picture(&mut strike, request.job.grows(), asked.text, asked.margin)?;
     Ok(picture)

@@ -8,10 +8,10 @@ ghost use Rattle.tt_c_calls.specs.Lines.{IsStrikeFor, line_taken};
 ghost use Rattle.tt_c_calls.specs.Refusals.{call_font_fault, call_refusal};
 
 use crate::answer::{CAnswer, DONE, answer_of, sized};
-use crate::asked::{CJob, fit_of, text_of};
+use crate::asked::{CJob, text_of};
 use crate::fault::CallFault;
 use crate::line_drawing::{Texts, is_blank, stopped};
-use crate::opening::opened_face;
+use crate::opening::job_face;
 use std::alloc::Global;
 use tt_core::JobFault;
 use tt_render_lines::make_picture;
@@ -81,7 +81,7 @@ fn room_by(strike: &mut Strike, job: &CJob, texts: &[u8], ends: &[u64]) -> CAnsw
 /// by `draw_lines`, and no row is. Between lines at most `keep` bytes of glyphs are cached.
 ///
 /// Answers, the first of these:
-/// - the way to fit, the size or the margin is refused, or the font is too large or refused;
+/// - the way to fit, the number of values of axes, the size or the margin is refused, or the font is too large or refused;
 /// - memory was refused;
 /// - the answer of the first line that `draw_lines` refuses, with the number of the lines before it and the bytes of
 ///   their rows;
@@ -89,16 +89,16 @@ fn room_by(strike: &mut Strike, job: &CJob, texts: &[u8], ends: &[u64]) -> CAnsw
 pub fn lines_room(alloc: Global, font: &[u8], texts: &Texts<'_>, job: &CJob, keep: usize) -> CAnswer
     ensures { TellsRoom job.now font.now texts.now.bytes.now texts.now.ends.now result }
 {
-    let fit = match fit_of(job.fit) {
+    let fit = match job.tested_fit() {
         Ok(fit) => fit,
         Err(fault) => return answer_of(fault),
     };
-    let opening = job.opening(fit);
     // A text of no characters is never too long.
-    if let Err(fault) = test_job(&Setting::plain(job.size, job.margin, fit, opening).job("")) {
+    let setting = Setting::plain(job.size, job.margin, fit, job.opening(fit));
+    if let Err(fault) = test_job(&setting.job("")) {
         return answer_of(CallFault::Job(fault));
     }
-    let face = match opened_face(font, opening) {
+    let face = match job_face(font, job, fit) {
         Ok(face) => face,
         Err(fault) => return answer_of(fault),
     };

@@ -12,9 +12,9 @@ ghost use Rattle.tt_c_calls.specs.Refusals.{call_font_fault, call_refusal};
 ghost use Rattle.tt_c_calls.specs.Strikes.{TellsStrike, no_underline, post_number, strike_told, strike_wanted, underline_by, underline_told};
 
 use crate::answer::{CAnswer, DONE, answer_of, sized};
-use crate::asked::{CJob, fit_of};
+use crate::asked::CJob;
 use crate::fault::CallFault;
-use crate::opening::opened_face;
+use crate::opening::job_face;
 use tt_core::{Dir, Reading, i16_at, rq};
 use tt_line::{LineSize, size_by_steps};
 use tt_render_settings::Setting;
@@ -146,7 +146,7 @@ fn strike_of(size: LineSize, underline: CUnderline) -> CStrike
     }
 }
 
-/// The strike of a job without a text: that of a line of one column. Errors, the first of: UnknownFit; SizeRange,
+/// The strike of a job without a text: that of a line of one column. Errors, the first of: UnknownFit, AxesMany; SizeRange,
 /// MarginRange; FontLarge; those of the tables that every text needs; EmptyPicture, PictureLarge.
 #[tactic(auto, unfolding(crate::specs::Strikes::strike_wanted))]
 fn strike_for(font: &[u8], job: &CJob) -> Result<CStrike, CallFault>
@@ -154,15 +154,14 @@ fn strike_for(font: &[u8], job: &CJob) -> Result<CStrike, CallFault>
     ensures memory { IfErr result (λ f. f ≢ call.Memory) }
     ensures defects { IfTold call_font_fault result (IsAskedFaceDefect job.now font.now) }
 {
-    let fit = fit_of(job.fit)?;
-    let opening = job.opening(fit);
+    let fit = job.tested_fit()?;
     // A text of no characters is never too long.
-    test_job(&Setting::plain(job.size, job.margin, fit, opening).job(""))?;
-    let face = opened_face(font, opening)?;
+    test_job(&Setting::plain(job.size, job.margin, fit, job.opening(fit)).job(""))?;
+    let face = job_face(font, job, fit)?;
     let metrics = face.metrics();
     let size = size_by_steps(metrics, &[(0, 1)], job.size, job.margin)?;
     let em = metrics.units_per_em();
-    Ok(strike_of(size, underline_by(font, opening.reading, job.size, em)))
+    Ok(strike_of(size, underline_by(font, job.reading(fit), job.size, em)))
 }
 
 /// Writes a font at a size, without a text: the rows of its lines, and its underline. Answers: done; the font is refused,

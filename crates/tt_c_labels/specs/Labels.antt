@@ -5,7 +5,7 @@ use Rattle.tt_core.specs.Outcomes.{◌>>=◌}
 use Rattle.tt_box.specs.Boxes.{BoxPlace, Boxed, box_outcome}
 use Rattle.tt_cmap.specs.Maps.{CharacterMap}
 use Rattle.tt_face.specs.Faces.{Face}
-use Rattle.tt_face.specs.Files.{IsFaceDefectBy}
+use Rattle.tt_face.specs.Instance.{IsDefectAtInstance}
 use Rattle.tt_label.specs.Gathered.{gathered, units_glyphs}
 use Rattle.tt_label.specs.Label.{label_glyphs, label_outcome, label_report}
 use Rattle.tt_label.specs.Widths.{CutImage, width_outcome}
@@ -29,7 +29,7 @@ use Rattle.tt_c_labels.specs.declared.request.LabelSpace.{LabelSpace}
 use Rattle.tt_c_labels.specs.declared.request.LabelSpace.TheVariants as space
 use Rattle.tt_c_labels.specs.declared.drawing.DrawnLabel.{DrawnLabel}
 use Rattle.tt_c_labels.specs.declared.labelling.CLabel.{CLabel}
-use Rattle.tt_c_labels.specs.Requests.{LabelAsked, label_asked, label_opening}
+use Rattle.tt_c_labels.specs.Requests.{LabelAsked, label_asked, label_instance, label_opening}
 
 -- a label: its picture, its size in pixels per em, and the columns of ink that are cut at each side
 pub record LabelImage : Type 0 where
@@ -75,11 +75,19 @@ label_unfitted how (space.Box n m) face a = line_report face a (gathered (units_
 abbrev pub composed_job : CharacterMap → Job → Job
 composed_job m a = record a { text = composed_text m a.text }
 
+-- the tables of a label by a font file, or the first refusal
+abbrev pub label_opened : CLabelJob → List ℕ → Result Face Refusal
+label_opened j file = opened_wanted (label_opening j) (label_instance j) file
+
+-- a defect of these tables
+abbrev pub IsLabelFaceDefect : CLabelJob → List ℕ → Fault → Type 0
+IsLabelFaceDefect j file fault = IsDefectAtInstance file (label_opening j) (label_instance j) fault
+
 -- the label of a text by a font file, or the first refusal
 unfoldable pub label_wanted : CLabelJob → List ℕ → List ℕ → Result LabelImage Refusal
 label_wanted j text file =
     label_asked j text >>= λ a.
-    opened_wanted (label_opening j) file >>= λ face.
+    label_opened j file >>= λ face.
     as_call (label_drawn a.align a.space face (composed_job face.cmap a.job)) >>= λ i.
     some_label i
 
@@ -114,7 +122,7 @@ IsDrawnOf a face l =
 pub record IsLabelOf (j : CLabelJob) (text file : List ℕ) (l : DrawnLabel) : Type 0 where
   pub image : label_wanted j text file ≡ Ok (drawn_view l)
   pub ready : IsReady l.picture
-  pub made : IsOkAnd (label_asked j text) (λ a. IsOkAnd (opened_wanted (label_opening j) file) (λ face. IsDrawnOf a face l))
+  pub made : IsOkAnd (label_asked j text) (λ a. IsOkAnd (label_opened j file) (λ face. IsDrawnOf a face l))
 
 -- a defect of a font that the picture of a label meets. Of a given width or box it is the one that the definition names
 abbrev pub IsSpaceDefect : Align → LabelSpace → Face → Job → Fault → Type 0
@@ -128,8 +136,8 @@ IsDrawnDefect a face fault = IsSpaceDefect a.align a.space face (composed_job fa
 
 -- a defect of a font that a label meets: one of the tables that every text needs, or one of its picture
 abbrev pub IsLabelDefect : CLabelJob → List ℕ → List ℕ → Fault → Type 0
-IsLabelDefect j text file fault = IsFaceDefectBy file (label_opening j).reading fault
-    ⊎ IsOkAnd (label_asked j text) (λ a. IsOkAnd (opened_wanted (label_opening j) file) (λ face. IsDrawnDefect a face fault))
+IsLabelDefect j text file fault = IsLabelFaceDefect j file fault
+    ⊎ IsOkAnd (label_asked j text) (λ a. IsOkAnd (label_opened j file) (λ face. IsDrawnDefect a face fault))
 
 -- a label for C
 abbrev pub label_told : DrawnLabel → CLabel

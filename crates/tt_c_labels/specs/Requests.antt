@@ -1,16 +1,18 @@
 -- No part of the standard: the request of a label by C, and its tests before the font is read (profile).
-use Rattle.std.specs.Prelude.{◌≡◌, refl, ℕ, ◌+◌, ◌-◌, ◌*◌, ◌≤◌, ◌==◌, nat_le, nat_lt, if◌then◌else◌, Bool, not, ◌&&◌, ◌||◌, List, [], ◌∷◌, map, Result, Ok, Err, ⊤}
+use Rattle.std.specs.Prelude.{◌≡◌, refl, ℕ, ◌+◌, ◌-◌, ◌*◌, ◌≤◌, ◌==◌, nat_le, nat_lt, if◌then◌else◌, Bool, not, ◌&&◌, ◌||◌, List, [], ◌∷◌, map, replicate, Option, Result, Ok, Err, ⊤}
 use Rattle.tt_core.specs.declared.collection.Reading.TheVariants as reading
 use Rattle.tt_core.specs.Limits.{height_limit, width_limit}
 use Rattle.tt_core.specs.Outcomes.{◌>>=◌}
 use Rattle.tt_face.specs.declared.rules.Opening.{Opening}
+use Rattle.tt_face.specs.Instance.{Asked}
 use Rattle.tt_line.specs.declared.align.Align.{Align}
 use Rattle.tt_line.specs.declared.align.Align.TheVariants as align
 use Rattle.tt_render_settings.specs.Settings.{plain_setting, setting_tested}
 use Rattle.tt_strike.specs.Job.{Job, job_for, job_view, tested}
 use Rattle.tt_strike.specs.Refusals.{as_job}
 use Rattle.tt_c_calls.specs.Asked.{fit_asked, heights_asked, text_asked}
-use Rattle.tt_c_calls.specs.Refusals.{Refusal, as_call, box_range, unknown_align, width_range}
+use Rattle.tt_c_calls.specs.Variations.{axes_tested, instance_asked, no_axis}
+use Rattle.tt_c_calls.specs.Refusals.{Refusal, as_call, axes_many, box_range, unknown_align, width_range}
 use Rattle.tt_c_labels.specs.declared.request.AskedLabel.{AskedLabel}
 use Rattle.tt_c_labels.specs.declared.request.CLabelJob.{CLabelJob}
 use Rattle.tt_c_labels.specs.declared.request.LabelSpace.{LabelSpace}
@@ -30,6 +32,10 @@ label_opening j = record {
   reading = reading.Wide (j.face - 1);
   rules = record { heights = heights_asked j.rounded; kerned = not (j.kern == 0) };
 }
+
+-- the instance that the face of a label is opened at
+abbrev pub label_instance : CLabelJob → Option Asked
+label_instance j = instance_asked j.instance j.axes j.axis
 
 -- a length of at most a limit has a pixel between two margins
 abbrev pub leaves_room : ℕ → ℕ → ℕ → Bool
@@ -76,6 +82,7 @@ asked_view a = record { job = job_view a.job; align = a.align; space = a.space }
 unfoldable pub label_asked : CLabelJob → List ℕ → Result LabelAsked Refusal
 label_asked j text =
     fit_asked j.fit >>= λ how.
+    axes_tested j.axes >>= λ u.
     align_asked j.align >>= λ side.
     text_asked text >>= λ t.
     as_call (as_job (setting_tested (plain_setting j.size j.margin how (label_opening j)))) >>= λ u.
@@ -96,6 +103,9 @@ plain = record {
   width = 0;
   box_width = 0;
   box_height = 0;
+  instance = 0;
+  axes = 0;
+  axis = replicate 16 no_axis;
 }
 
 the_sides : map align_asked (0 ∷ 1 ∷ 2 ∷ 3 ∷ [])
@@ -132,5 +142,9 @@ unfolding plain
 faces = refl
 
 align_before_text : label_asked (record plain { align = 3 }) (255 ∷ []) ≡ Err unknown_align
-unfolding label_asked plain fit_asked align_asked
+unfolding label_asked plain fit_asked axes_tested align_asked
 align_before_text = refl
+
+values_before_align : label_asked (record plain { align = 3; axes = 17 }) (255 ∷ []) ≡ Err axes_many
+unfolding label_asked plain fit_asked axes_tested
+values_before_align = refl

@@ -5,18 +5,20 @@ ghost use Rattle.tt_core.specs.Outcomes.{GivesUnless, IfTold, draw_font_fault};
 ghost use Rattle.tt_line.specs.Labels.{label_lines};
 ghost use Rattle.tt_picture.specs.Pictures.{IsReady};
 ghost use Rattle.tt_render.specs.Labels.{composed_text};
+ghost use Rattle.tt_strike.specs.Defects.{TellsDefects};
 ghost use Rattle.tt_strike.specs.Job.{IsJob, job_for, job_view};
 ghost use Rattle.tt_strike.specs.Refusals.{refusal};
 ghost use Rattle.tt_strike.specs.Strikes.{job_of};
 ghost use Rattle.tt_c_calls.specs.Refusals.{call_font_fault, call_refusal};
 ghost use Rattle.tt_c_labels.specs.Requests.{LeavesRoom, asked_view};
-ghost use Rattle.tt_c_labels.specs.Labels.{IsDrawnDefect, IsDrawnOf, IsLabelDefect, IsLabelMade, IsLabelOf, IsSpaceDefect, IsStrikeOf, composed_job, drawn_if, drawn_view, label_drawn, label_unfitted, label_wanted};
+ghost use Rattle.tt_c_labels.specs.Labels.{IsDrawnDefect, IsDrawnOf, IsLabelDefect, IsLabelFaceDefect, IsLabelMade, IsLabelOf, IsSpaceDefect, IsStrikeOf, composed_job, drawn_if, drawn_view, label_drawn, label_opened, label_unfitted, label_wanted};
 ghost use Rattle.tt_c_labels.specs.declared.request.LabelSpace.TheVariants as space;
 
-use crate::request::{AskedLabel, LabelRequest, LabelSpace, asked_label};
+use crate::request::{AskedLabel, CLabelJob, LabelRequest, LabelSpace, asked_label};
 use std::alloc::Global;
 use tt_box::{BoxLabel, LabelBox, label_in_box};
 use tt_c_calls::{CallFault, opened_face};
+use tt_face::Face;
 use tt_label::{WidthLabel, label, label_in_width};
 use tt_render::lines_lacking;
 use tt_rows::composed;
@@ -178,8 +180,17 @@ fn draw_label(
     draw_composed(alloc, strike, asked, &text, missing.len() as u64)
 }
 
+/// The tables of a label's job, with the rules of its lines. Errors: as `opened_face`.
+fn label_face<'a>(font: &'a [u8], job: &CLabelJob) -> Result<Face<'a>, CallFault>
+    ensures exact { GivesUnless call_refusal (λ f. f) result (label_opened job.now font.now) }
+    ensures defects { TellsDefects call_font_fault (IsLabelFaceDefect job.now font.now) result }
+{
+    let instance = job.asked_instance();
+    opened_face(font, job.opening(), instance.asked())
+}
+
 /// The label of a text by a font file. Errors, the first of: those of the request; FontLarge; those of the tables that
-/// every text needs; those of the requested picture; BoxSmall where the text fits into a box at no size.
+/// every text needs, and of the instance; those of the requested picture; BoxSmall where the text fits into a box at no size.
 #[tactic(auto, unfolding(crate::specs::Labels::label_wanted))]
 pub(crate) fn label_of(alloc: Global, request: &LabelRequest) -> Result<DrawnLabel, CallFault>
     ensures exact { GivesUnless call_refusal drawn_view result (label_wanted request.now.job.now request.now.text.now request.now.font.now) }
@@ -187,7 +198,7 @@ pub(crate) fn label_of(alloc: Global, request: &LabelRequest) -> Result<DrawnLab
     ensures defects { IfTold call_font_fault result (IsLabelDefect request.now.job.now request.now.text.now request.now.font.now) }
 {
     let asked = asked_label(request.job, request.text)?;
-    let face = opened_face(request.font, asked.job.opening)?;
+    let face = label_face(request.font, request.job)?;
     let mut strike = Strike::new(alloc, &face, asked.job.ppem, asked.job.fit, 0)?;
     let drawn = draw_label(alloc, &mut strike, &asked)?;
     let Some(drawn) = drawn else {

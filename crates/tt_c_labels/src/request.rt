@@ -4,9 +4,11 @@ ghost use Rattle.std.specs.Prelude.{◌≡◌, IfOk};
 ghost use Rattle.tt_core.specs.Outcomes.{GivesUnless, IfTold};
 ghost use Rattle.tt_strike.specs.Job.{IsJob, job_view};
 ghost use Rattle.tt_c_calls.specs.Refusals.{call_font_fault, call_refusal};
-ghost use Rattle.tt_c_labels.specs.Requests.{LeavesRoom, align_asked, asked_view, box_asked, is_boxed, label_asked, label_opening, leaves_room, space_asked};
+ghost use Rattle.tt_c_labels.specs.Requests.{LeavesRoom, align_asked, asked_view, box_asked, is_boxed, label_asked, label_instance, label_opening, leaves_room, space_asked};
 
-use tt_c_calls::{CallFault, fit_of, heights_asked, text_of};
+use tt_c_calls::{
+    AXES_MOST, CAxis, CallFault, JobInstance, fit_of, heights_asked, test_axes, text_of,
+};
 use tt_core::{HEIGHT_LIMIT, Reading, WIDTH_LIMIT};
 use tt_face::{LineRules, Opening};
 use tt_line::Align;
@@ -37,6 +39,12 @@ pub struct CLabelJob {
     /// of at most `size`.
     pub box_width: u32,
     pub box_height: u32,
+    /// k + 1 for the font's named instance k. 0 for its default.
+    pub instance: u32,
+    /// How many of `axis` count, 0 to 16.
+    pub axes: u32,
+    /// Values of axes, in order, after those of the named instance.
+    pub axis: [CAxis; AXES_MOST],
 }
 
 /// A request: a text, the font that draws its label, and how.
@@ -81,6 +89,14 @@ impl CLabelJob {
             },
             rules,
         }
+    }
+
+    /// The instance that the face is opened at.
+    pub(crate) fn asked_instance(&self) -> JobInstance
+        ensures { result ≡ label_instance self.now }
+    {
+        let axis = self.axis;
+        JobInstance::new(self.instance, self.axes, &axis)
     }
 
     /// Whether the picture is to fill a box.
@@ -150,7 +166,7 @@ fn space_of(job: &CLabelJob) -> Result<LabelSpace, CallFault>
     Ok(LabelSpace::Width(job.width))
 }
 
-/// The tested request of a label. Errors, the first of: UnknownFit, UnknownAlign, NotUtf8; SizeRange, MarginRange;
+/// The tested request of a label. Errors, the first of: UnknownFit, AxesMany, UnknownAlign, NotUtf8; SizeRange, MarginRange;
 /// BoxRange, WidthRange; TextLong.
 #[tactic(auto, unfolding(crate::specs::Requests::label_asked))]
 pub(crate) fn asked_label<'t>(job: &CLabelJob, text: &'t [u8]) -> Result<AskedLabel<'t>, CallFault>
@@ -161,6 +177,7 @@ pub(crate) fn asked_label<'t>(job: &CLabelJob, text: &'t [u8]) -> Result<AskedLa
     ensures font { IfTold call_font_fault result (λ _. ⊥) }
 {
     let fit = fit_of(job.fit)?;
+    test_axes(job.axes)?;
     let align = align_of(job.align)?;
     let text = text_of(text)?;
     let setting = Setting::plain(job.size, job.margin, fit, job.opening());

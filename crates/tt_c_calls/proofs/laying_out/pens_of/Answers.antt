@@ -3,7 +3,7 @@ use Rattle.std.proofs.lemmas.Result.{err_from_is_err_and}
 use Rattle.tt_strike.specs.Job.{job_view}
 use Rattle.tt_strike.specs.Layouts.{pens_outcome}
 use Rattle.tt_c_calls.specs.Asked.{IsAskedDefect, job_opening}
-use Rattle.tt_c_calls.specs.Fonts.{opened_wanted}
+use Rattle.tt_c_calls.specs.Fonts.{job_opened, opened_wanted}
 use Rattle.tt_c_calls.proofs.Answered.{draw_refused, drawn_too, first_stops}
 use Rattle.tt_c_calls.proofs.AskedTables.{asked_tells, face_defects}
 use Rattle.tt_c_calls.proofs.Counted.{asked_parts, pens_counted, units_counted}
@@ -23,15 +23,15 @@ returns-in_err-face-clause-exact c =
     let font = c.args.request.now.font.now in
     let fault = c.in_err-face.field-0.0 in
     let is = pens_of_tables c.args.request.now.job.now c.args.request.now.text.now font (job_view c.in_ok-asked.asked) c.in_ok-asked.ensures.exact c.in_ok-test_job.ensures.exact in
-    rw (p.1, p.2, is) (first_stops (opened_wanted (job_opening c.args.request.now.job.now c.in_ok-asked.asked.fit) font) _ fault
-    (rw c.in_ok-asked.ensures.opening at c.in_err-face.ensures.exact))
+    rw (p.1, p.2, is) (first_stops (job_opened c.args.request.now.job.now c.in_ok-asked.asked.fit font) _ fault
+    c.in_err-face.ensures.exact)
 
 pub returns-in_err-face-clause-defects : goal.returns-in_err-face-clause-defects
 returns-in_err-face-clause-defects c =
     let p = err_from_is_err_and c.from_residual-in_err-face.result c.from_residual-in_err-face.ensures.1 in
     rw (p.1, p.2) (face_defects c.args.request.now.job.now c.args.request.now.text.now c.args.request.now.font.now
     (job_view c.in_ok-asked.asked) c.in_err-face.field-0.0 c.in_ok-asked.ensures.exact
-    (rw c.in_ok-asked.ensures.opening at c.in_err-face.ensures.defects))
+    c.in_err-face.ensures.defects)
 
 pub returns-in_err-sized-clause-exact : goal.returns-in_err-sized-clause-exact
 returns-in_err-sized-clause-exact c =
@@ -45,7 +45,7 @@ returns-in_err-sized-clause-defects c =
 
 pub returns-in_err-placed-clause-exact : goal.returns-in_err-placed-clause-exact
 returns-in_err-placed-clause-exact c =
-    let read = rw c.in_ok-asked.ensures.opening at c.in_ok-face.ensures.exact in
+    let read = c.in_ok-face.ensures.exact in
     let p = err_from_is_err_and c.from_residual-in_err-placed.result c.from_residual-in_err-placed.ensures.1 in
     let a = job_view c.in_ok-asked.asked in
     let face = c.in_ok-face.face in
@@ -55,15 +55,15 @@ returns-in_err-placed-clause-exact c =
 
 pub returns-in_err-placed-clause-defects : goal.returns-in_err-placed-clause-defects
 returns-in_err-placed-clause-defects c =
-    let read = rw c.in_ok-asked.ensures.opening at c.in_ok-face.ensures.exact in
+    let read = c.in_ok-face.ensures.exact in
     let p = err_from_is_err_and c.from_residual-in_err-placed.result c.from_residual-in_err-placed.ensures.1 in
-    rw (p.1, p.2) (line_stands _ c.args.request.now.job.now c.args.request.now.text.now c.args.request.now.font.now
+    rw (p.1, p.2) (line_stands c.args.request.now.job.now c.args.request.now.text.now c.args.request.now.font.now
     (job_view c.in_ok-asked.asked) c.in_ok-face.face c.in_err-placed.field-0.0 c.in_ok-asked.ensures.exact read
     (rw c.in_ok-sized.ensures.exact at c.in_err-placed.ensures.defects))
 
 pub returns-in-Ok-clause-exact : goal.returns-in-Ok-clause-exact
 returns-in-Ok-clause-exact c =
-    let read = rw c.in_ok-asked.ensures.opening at c.in_ok-face.ensures.exact in
+    let read = c.in_ok-face.ensures.exact in
     let is = pens_of_face c.args.request.now.job.now c.args.request.now.text.now c.args.request.now.font.now (job_view c.in_ok-asked.asked) c.in_ok-face.face
     c.in_ok-asked.ensures.exact c.in_ok-test_job.ensures.exact read in
     rw is (drawn_too _ _ (rw c.in_ok-sized.ensures.exact at c.in_ok-placed.ensures.exact))
@@ -75,7 +75,7 @@ returns-in-Ok-clause-offsets c =
 
 pub returns-in-Ok-clause-count : goal.returns-in-Ok-clause-count
 returns-in-Ok-clause-count c =
-    let read = rw c.in_ok-asked.ensures.opening at c.in_ok-face.ensures.exact in
+    let read = c.in_ok-face.ensures.exact in
     let a = job_view c.in_ok-asked.asked in
     let face = c.in_ok-face.face in
     let job = c.args.request.now.job.now in

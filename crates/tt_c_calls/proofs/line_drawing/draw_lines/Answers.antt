@@ -18,7 +18,7 @@ returns-in-Err-clause-draws c =
       order = refused_first (lines_wanted j font) _ _ fault c.in-Err.ensures.memory is;
       kept = λ _. (refl, refl);
       drawn = λ room. lines_refused j font _ _ _ _ fault is;
-      stands = lines_defect_told _ fault (fit_defect j.fit _ fault c.in-Err.ensures.exact);
+      stands = lines_defect_told _ fault (fit_defect j _ fault c.in-Err.ensures.exact);
     })
 
 pub returns-in-Err-test_job-clause-draws : goal.returns-in-Err-test_job-clause-draws
@@ -26,7 +26,7 @@ returns-in-Err-test_job-clause-draws c =
     let j = c.args.job.now in
     let font = c.args.font.now in
     let fault = c.in-Err-test_job.fault in
-    let fails = of_setting j c.in-Ok.fit _ _ _ _ c.job.ensures.exact c.plain.ensures c.in-Err-test_job.ensures.exact in
+    let fails = of_setting j c.in-Ok.fit _ _ _ _ c.job.ensures.exact c.plain-setting.ensures c.in-Err-test_job.ensures.exact in
     let is = job_refused j font c.in-Ok.fit fault c.in-Ok.ensures.exact fails in
     rw c.answer_of-in-Err-test_job.ensures (record {
       order = job_first (lines_wanted j font) _ _ fault is;
@@ -35,31 +35,31 @@ returns-in-Err-test_job-clause-draws c =
       stands = lines_defect_told _ (call.Job fault) tt;
     })
 
-pub returns-in-Err-opened_face-clause-draws : goal.returns-in-Err-opened_face-clause-draws
-returns-in-Err-opened_face-clause-draws c =
+pub returns-in-Err-job_face-clause-draws : goal.returns-in-Err-job_face-clause-draws
+returns-in-Err-job_face-clause-draws c =
     let j = c.args.job.now in
     let font = c.args.font.now in
-    let fault = c.in-Err-opened_face.fault in
-    let passed = of_setting j c.in-Ok.fit _ _ _ _ c.job.ensures.exact c.plain.ensures c.in_default.ensures.exact in
+    let fault = c.in-Err-job_face.fault in
+    let passed = of_setting j c.in-Ok.fit _ _ _ _ c.job.ensures.exact c.plain-setting.ensures c.in_default.ensures.exact in
     let is = face_refused j font c.in-Ok.fit fault c.in-Ok.ensures.exact passed
-    (rw c.opening-opening.ensures at c.in-Err-opened_face.ensures.exact) in
-    rw c.answer_of-in-Err-opened_face.ensures (record {
-      order = refused_first (lines_wanted j font) _ _ fault c.in-Err-opened_face.ensures.memory is;
+    c.in-Err-job_face.ensures.exact in
+    rw c.answer_of-in-Err-job_face.ensures (record {
+      order = refused_first (lines_wanted j font) _ _ fault c.in-Err-job_face.ensures.memory is;
       kept = λ _. (refl, refl);
       drawn = λ room. lines_refused j font _ _ _ _ fault is;
       stands = lines_defect_told _ fault
           (if_some_more (call_font_fault fault) _ _ (λ f h. inl (rw c.in-Ok.ensures.exact h))
-          (rw c.opening-opening.ensures at c.in-Err-opened_face.ensures.defects));
+          c.in-Err-job_face.ensures.defects);
     })
 
 pub returns-then-lines-ends-clause-draws : goal.returns-then-lines-ends-clause-draws
 returns-then-lines-ends-clause-draws c =
     let j = c.args.job.now in
     let font = c.args.font.now in
-    let passed = of_setting j c.in-Ok.fit _ _ _ _ c.job.ensures.exact c.plain.ensures c.in_default.ensures.exact in
-    let face = c.in-Ok-opened_face.face in
+    let passed = of_setting j c.in-Ok.fit _ _ _ _ c.job.ensures.exact c.plain-setting.ensures c.in_default.ensures.exact in
+    let face = c.in-Ok-job_face.face in
     let opened = lines_opened j font c.in-Ok.fit face c.in-Ok.ensures.exact passed
-    (rw c.opening-opening.ensures at c.in-Ok-opened_face.ensures.exact) in
+    c.in-Ok-job_face.ensures.exact in
     record {
       order = opened_first (lines_wanted j font) face _ _ _ opened (λ few. c.sized.ensures);
       kept = λ _. (refl, refl);
@@ -71,10 +71,10 @@ pub returns-in-Err-new-clause-draws : goal.returns-in-Err-new-clause-draws
 returns-in-Err-new-clause-draws c =
     let j = c.args.job.now in
     let font = c.args.font.now in
-    let passed = of_setting j c.in-Ok.fit _ _ _ _ c.job.ensures.exact c.plain.ensures c.in_default.ensures.exact in
-    let face = c.in-Ok-opened_face.face in
+    let passed = of_setting j c.in-Ok.fit _ _ _ _ c.job.ensures.exact c.plain-setting.ensures c.in_default.ensures.exact in
+    let face = c.in-Ok-job_face.face in
     let opened = lines_opened j font c.in-Ok.fit face c.in-Ok.ensures.exact passed
-    (rw c.opening-opening.ensures at c.in-Ok-opened_face.ensures.exact) in
+    c.in-Ok-job_face.ensures.exact in
     let memory = strike_refused j c.in-Ok.fit c.in-Err-new.fault passed c.in-Err-new.ensures.tested in
     record {
       order = opened_first (lines_wanted j font) face _ _ _ opened (λ few. absurd (omega (arith, few, c.if-lines-ends.false)));
@@ -85,9 +85,9 @@ returns-in-Err-new-clause-draws c =
 
 pub draw_by-answer-requires : goal.draw_by-answer-requires
 draw_by-answer-requires c =
-    let passed = of_setting c.args.job.now c.in-Ok.fit _ _ _ _ c.job.ensures.exact c.plain.ensures c.in_default.ensures.exact in (
-      strike_for c.args.job.now c.args.font.now c.in-Ok.fit c.in-Ok-opened_face.face c.in-Ok-new.strike c.args.keep
-          c.in-Ok.ensures.exact passed (rw c.opening-opening.ensures at c.in-Ok-opened_face.ensures.exact)
+    let passed = of_setting c.args.job.now c.in-Ok.fit _ _ _ _ c.job.ensures.exact c.plain-setting.ensures c.in_default.ensures.exact in (
+      strike_for c.args.job.now c.args.font.now c.in-Ok.fit c.in-Ok-job_face.face c.in-Ok-new.strike c.args.keep
+          c.in-Ok.ensures.exact passed c.in-Ok-job_face.ensures.exact
           c.in-Ok-new.ensures.exact,
       c.if-lines-ends.false,
     )
@@ -99,12 +99,12 @@ returns-clause-draws c =
     let texts = c.args.texts.now.bytes.now in
     let ends = c.args.texts.now.ends.now in
     let own = c.draw_by-answer in
-    let passed = of_setting j c.in-Ok.fit _ _ _ _ c.job.ensures.exact c.plain.ensures c.in_default.ensures.exact in
-    let face = c.in-Ok-opened_face.face in
+    let passed = of_setting j c.in-Ok.fit _ _ _ _ c.job.ensures.exact c.plain-setting.ensures c.in_default.ensures.exact in
+    let face = c.in-Ok-job_face.face in
     let opened = lines_opened j font c.in-Ok.fit face c.in-Ok.ensures.exact passed
-    (rw c.opening-opening.ensures at c.in-Ok-opened_face.ensures.exact) in
+    c.in-Ok-job_face.ensures.exact in
     let same : c.in-Ok-new.strike.face.directory.file ≡ font =
-    rw c.in-Ok-new.ensures.exact (file_is _ font face c.in-Ok-opened_face.ensures.exact) in
+    rw c.in-Ok-new.ensures.exact (file_is j c.in-Ok.fit font face c.in-Ok-job_face.ensures.exact) in
     let Drawn : List ℕ → Type 0 = λ file. (used : ℕ)
     × DrawsLines j file texts ends c.args.rows.now own.new.rows c.args.lines.now own.new.lines used own.result.count
     × EndsWith j file texts ends (length c.args.rows.now) used own.result in
@@ -131,12 +131,12 @@ returns-clause-cached c =
     let j = c.args.job.now in
     let font = c.args.font.now in
     let made = c.in-Ok-new.strike in
-    let passed = of_setting j c.in-Ok.fit _ _ _ _ c.job.ensures.exact c.plain.ensures c.in_default.ensures.exact in
-    let face = c.in-Ok-opened_face.face in
-    let same : made.face.directory.file ≡ font = rw c.in-Ok-new.ensures.exact (file_is _ font face c.in-Ok-opened_face.ensures.exact) in
+    let passed = of_setting j c.in-Ok.fit _ _ _ _ c.job.ensures.exact c.plain-setting.ensures c.in_default.ensures.exact in
+    let face = c.in-Ok-job_face.face in
+    let same : made.face.directory.file ≡ font = rw c.in-Ok-new.ensures.exact (file_is j c.in-Ok.fit font face c.in-Ok-job_face.ensures.exact) in
     let for : IsStrikeFor j made.face.directory.file made =
     strike_for j font c.in-Ok.fit face made c.args.keep c.in-Ok.ensures.exact passed
-    (rw c.opening-opening.ensures at c.in-Ok-opened_face.ensures.exact) c.in-Ok-new.ensures.exact in
+    c.in-Ok-job_face.ensures.exact c.in-Ok-new.ensures.exact in
     let Is : List ℕ → Type 0 = λ file. IsStrikeFor j file made in
     let is = subst Is same for in
     let most = λ (s : Strike). s.most in

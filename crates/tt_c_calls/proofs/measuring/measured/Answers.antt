@@ -10,32 +10,32 @@ use Rattle.tt_strike.specs.declared.measuring.Measure.{Measure}
 use Rattle.tt_c_calls.specs.declared.asked.CJob.{CJob}
 use Rattle.tt_c_calls.specs.declared.fault.CallFault.{CallFault}
 use Rattle.tt_c_calls.specs.Asked.{IsAskedDefect, asked, grows, job_opening}
-use Rattle.tt_c_calls.specs.Fonts.{opened_wanted}
+use Rattle.tt_c_calls.specs.Fonts.{job_opened, opened_wanted}
 use Rattle.tt_c_calls.specs.Measures.{IsMeasureOf, measure_wanted}
 use Rattle.tt_render_settings.specs.Products.{measure_by}
 use Rattle.tt_c_calls.specs.Refusals.{as_call, call_of_draw, call_refusal}
 use Rattle.tt_c_calls.proofs.Answered.{draw_refused, draw_tells, drawn_too, first_stops}
-use Rattle.tt_c_calls.proofs.AskedTables.{asked_defects, asked_tells, face_defects, face_opened, of_tables}
+use Rattle.tt_c_calls.proofs.AskedTables.{asked_defects, asked_tells, face_defects, face_opened, job_face_opened, of_tables}
 use Rattle.tt_c_calls.proofs.measuring.measured.Goals as goal
 
 by_tables : (j : CJob) (text font : List ℕ) (a : Job) → asked j text ≡ Ok a → tested a ≡ Ok tt
     → measure_wanted j text font
-    ≡ (opened_wanted (job_opening j a.fit) font >>= λ face. as_call (measure_by (grows j) face a))
+    ≡ (job_opened j a.fit font >>= λ face. as_call (measure_by (grows j) face a))
 unfolding measure_wanted
 by_tables j text font a is passes = of_tables (measure_by (grows j)) j text font a is passes
 
 by_face : (j : CJob) (text font : List ℕ) (a : Job) (face : Face) → asked j text ≡ Ok a → tested a ≡ Ok tt
-    → opened_wanted (job_opening j a.fit) font ≡ Ok face → measure_wanted j text font ≡ as_call (measure_by (grows j) face a)
+    → job_opened j a.fit font ≡ Ok face → measure_wanted j text font ≡ as_call (measure_by (grows j) face a)
 by_face j text font a face is passes read = by_tables j text font a is passes ∙ rw read refl
 
 is_measure : (j : CJob) (text font : List ℕ) (a : Job) (face : Face) (r : Result Measure CallFault)
-    → asked j text ≡ Ok a → opened_wanted (job_opening j a.fit) font ≡ Ok face
+    → asked j text ≡ Ok a → job_opened j a.fit font ≡ Ok face
     → GivesUnless call_refusal measure_view r (measure_wanted j text font)
     → IfOk r (λ m. report_by face a ≡ Ok m.report.unfitted.items)
     → IfOk r (λ m. IsMeasureOf j text font (measure_view m) m.report.unfitted.items)
 is_measure j text font a face (Ok m) is read gives told = record {
   measure = gives;
-  unfitted = rw (is, face_opened (job_opening j a.fit) font face read) told;
+  unfitted = rw (is, job_face_opened j a.fit font face read) told;
 }
 is_measure j text font a face (Err e) is read gives told = tt
 
@@ -52,19 +52,19 @@ returns-in_err-face-clause-exact c =
     let font = c.args.request.now.font.now in
     let fault = c.in_err-face.field-0.0 in
     let is = by_tables c.args.request.now.job.now c.args.request.now.text.now font (job_view c.in_ok-asked.asked) c.in_ok-asked.ensures.exact c.in_ok-test_job.ensures.exact in
-    rw (p.1, p.2, is) (first_stops (opened_wanted (job_opening c.args.request.now.job.now c.in_ok-asked.asked.fit) font) _ fault
-    (rw c.in_ok-asked.ensures.opening at c.in_err-face.ensures.exact))
+    rw (p.1, p.2, is) (first_stops (job_opened c.args.request.now.job.now c.in_ok-asked.asked.fit font) _ fault
+    c.in_err-face.ensures.exact)
 
 pub returns-in_err-face-clause-defects : goal.returns-in_err-face-clause-defects
 returns-in_err-face-clause-defects c =
     let p = err_from_is_err_and c.from_residual-in_err-face.result c.from_residual-in_err-face.ensures.1 in
     rw (p.1, p.2) (face_defects c.args.request.now.job.now c.args.request.now.text.now c.args.request.now.font.now
     (job_view c.in_ok-asked.asked) c.in_err-face.field-0.0 c.in_ok-asked.ensures.exact
-    (rw c.in_ok-asked.ensures.opening at c.in_err-face.ensures.defects))
+    c.in_err-face.ensures.defects)
 
 pub returns-in_err-measure-clause-exact : goal.returns-in_err-measure-clause-exact
 returns-in_err-measure-clause-exact c =
-    let read = rw c.in_ok-asked.ensures.opening at c.in_ok-face.ensures.exact in
+    let read = c.in_ok-face.ensures.exact in
     let p = err_from_is_err_and c.from_residual-in_err-measure.result c.from_residual-in_err-measure.ensures.1 in
     let j = c.args.request.now.job.now in
     let a = job_view c.in_ok-asked.asked in
@@ -76,8 +76,8 @@ returns-in_err-measure-clause-exact c =
 
 pub returns-in_err-measure-clause-defects : goal.returns-in_err-measure-clause-defects
 returns-in_err-measure-clause-defects c =
-    let read = rw c.in_ok-asked.ensures.opening at c.in_ok-face.ensures.exact in
-    let none = rw c.in_ok-asked.ensures.opening at c.in_ok-face.ensures.defects in
+    let read = c.in_ok-face.ensures.exact in
+    let none = c.in_ok-face.ensures.defects in
     let p = err_from_is_err_and c.from_residual-in_err-measure.result c.from_residual-in_err-measure.ensures.1 in
     let d = c.in_err-measure.field-0.0 in
     let tells = rw c.in_ok-strike.ensures.exact at c.in_err-measure.ensures.defects in
@@ -87,14 +87,14 @@ returns-in_err-measure-clause-defects c =
 
 pub returns-clause-exact : goal.returns-clause-exact
 returns-clause-exact c =
-    let read = rw c.in_ok-asked.ensures.opening at c.in_ok-face.ensures.exact in
+    let read = c.in_ok-face.ensures.exact in
     let is = by_face c.args.request.now.job.now c.args.request.now.text.now c.args.request.now.font.now (job_view c.in_ok-asked.asked) c.in_ok-face.face
     c.in_ok-asked.ensures.exact c.in_ok-test_job.ensures.exact read in
     rw is (drawn_too _ _ (rw (c.in_ok-strike.ensures.exact, c.grows.ensures) at c.in_ok-measure.ensures.exact))
 
 pub returns-clause-measure : goal.returns-clause-measure
 returns-clause-measure c =
-    let read = rw c.in_ok-asked.ensures.opening at c.in_ok-face.ensures.exact in
+    let read = c.in_ok-face.ensures.exact in
     let job = c.args.request.now.job.now in
     let text = c.args.request.now.text.now in
     let font = c.args.request.now.font.now in
@@ -107,8 +107,8 @@ returns-clause-measure c =
 
 pub returns-clause-defects : goal.returns-clause-defects
 returns-clause-defects c =
-    let read = rw c.in_ok-asked.ensures.opening at c.in_ok-face.ensures.exact in
-    let none = rw c.in_ok-asked.ensures.opening at c.in_ok-face.ensures.defects in
+    let read = c.in_ok-face.ensures.exact in
+    let none = c.in_ok-face.ensures.defects in
     asked_defects {V = Measure} c.args.request.now.job.now c.args.request.now.text.now c.args.request.now.font.now (job_view c.in_ok-asked.asked)
     c.in_ok-face.face (Ok c.in_ok-measure.measure) c.in_ok-asked.ensures.exact read
     none (rw c.in_ok-strike.ensures.exact at c.in_ok-measure.ensures.defects)

@@ -8,32 +8,32 @@ use Rattle.tt_face.specs.Faces.{Face}
 use Rattle.tt_c_calls.specs.declared.asked.CJob.{CJob}
 use Rattle.tt_c_calls.specs.declared.fault.CallFault.{CallFault}
 use Rattle.tt_c_calls.specs.Asked.{IsAskedDefect, asked, grows, job_opening}
-use Rattle.tt_c_calls.specs.Fonts.{opened_wanted}
+use Rattle.tt_c_calls.specs.Fonts.{job_opened, opened_wanted}
 use Rattle.tt_c_calls.specs.Pictures.{IsPictureOf, picture_wanted}
 use Rattle.tt_render_settings.specs.Products.{IsMadeBy, picture_by}
 use Rattle.tt_c_calls.specs.Refusals.{as_call, call_of_draw, call_refusal}
 use Rattle.tt_c_calls.proofs.Answered.{draw_refused, draw_tells, drawn_too, first_stops}
-use Rattle.tt_c_calls.proofs.AskedTables.{asked_defects, asked_tells, face_defects, face_opened, of_tables}
+use Rattle.tt_c_calls.proofs.AskedTables.{asked_defects, asked_tells, face_defects, face_opened, job_face_opened, of_tables}
 use Rattle.tt_c_calls.proofs.pictures.picture_of.Goals as goal
 
 by_tables : (j : CJob) (text font : List ℕ) (a : Job) → asked j text ≡ Ok a → tested a ≡ Ok tt
     → picture_wanted j text font
-    ≡ (opened_wanted (job_opening j a.fit) font >>= λ face. as_call (picture_by (grows j) face a))
+    ≡ (job_opened j a.fit font >>= λ face. as_call (picture_by (grows j) face a))
 unfolding picture_wanted
 by_tables j text font a is passes = of_tables (picture_by (grows j)) j text font a is passes
 
 by_face : (j : CJob) (text font : List ℕ) (a : Job) (face : Face) → asked j text ≡ Ok a → tested a ≡ Ok tt
-    → opened_wanted (job_opening j a.fit) font ≡ Ok face → picture_wanted j text font ≡ as_call (picture_by (grows j) face a)
+    → job_opened j a.fit font ≡ Ok face → picture_wanted j text font ≡ as_call (picture_by (grows j) face a)
 by_face j text font a face is passes read = by_tables j text font a is passes ∙ rw read refl
 
 is_picture : (j : CJob) (text font : List ℕ) (a : Job) (face : Face) (r : Result Picture CallFault)
-    → asked j text ≡ Ok a → opened_wanted (job_opening j a.fit) font ≡ Ok face
+    → asked j text ≡ Ok a → job_opened j a.fit font ≡ Ok face
     → GivesUnless call_refusal image_of r (picture_wanted j text font) → IfOk r IsReady
     → IfOk r (λ p. IsMadeBy (grows j) a p face) → IfOk r (IsPictureOf j text font)
 is_picture j text font a face (Ok p) is read gives ready made = record {
   image = gives;
   ready = ready;
-  made = rw (is, face_opened (job_opening j a.fit) font face read) made;
+  made = rw (is, job_face_opened j a.fit font face read) made;
 }
 is_picture j text font a face (Err e) is read gives ready made = tt
 
@@ -50,19 +50,19 @@ returns-in_err-face-clause-exact c =
     let font = c.args.request.now.font.now in
     let fault = c.in_err-face.field-0.0 in
     let is = by_tables c.args.request.now.job.now c.args.request.now.text.now font (job_view c.in_ok-asked.asked) c.in_ok-asked.ensures.exact c.in_ok-test_job.ensures.exact in
-    rw (p.1, p.2, is) (first_stops (opened_wanted (job_opening c.args.request.now.job.now c.in_ok-asked.asked.fit) font) _ fault
-    (rw c.in_ok-asked.ensures.opening at c.in_err-face.ensures.exact))
+    rw (p.1, p.2, is) (first_stops (job_opened c.args.request.now.job.now c.in_ok-asked.asked.fit font) _ fault
+    c.in_err-face.ensures.exact)
 
 pub returns-in_err-face-clause-defects : goal.returns-in_err-face-clause-defects
 returns-in_err-face-clause-defects c =
     let p = err_from_is_err_and c.from_residual-in_err-face.result c.from_residual-in_err-face.ensures.1 in
     rw (p.1, p.2) (face_defects c.args.request.now.job.now c.args.request.now.text.now c.args.request.now.font.now
     (job_view c.in_ok-asked.asked) c.in_err-face.field-0.0 c.in_ok-asked.ensures.exact
-    (rw c.in_ok-asked.ensures.opening at c.in_err-face.ensures.defects))
+    c.in_err-face.ensures.defects)
 
 pub returns-in_err-picture-clause-exact : goal.returns-in_err-picture-clause-exact
 returns-in_err-picture-clause-exact c =
-    let read = rw c.in_ok-asked.ensures.opening at c.in_ok-face.ensures.exact in
+    let read = c.in_ok-face.ensures.exact in
     let p = err_from_is_err_and c.from_residual-in_err-picture.result c.from_residual-in_err-picture.ensures.1 in
     let j = c.args.request.now.job.now in
     let a = job_view c.in_ok-asked.asked in
@@ -74,8 +74,8 @@ returns-in_err-picture-clause-exact c =
 
 pub returns-in_err-picture-clause-defects : goal.returns-in_err-picture-clause-defects
 returns-in_err-picture-clause-defects c =
-    let read = rw c.in_ok-asked.ensures.opening at c.in_ok-face.ensures.exact in
-    let none = rw c.in_ok-asked.ensures.opening at c.in_ok-face.ensures.defects in
+    let read = c.in_ok-face.ensures.exact in
+    let none = c.in_ok-face.ensures.defects in
     let p = err_from_is_err_and c.from_residual-in_err-picture.result c.from_residual-in_err-picture.ensures.1 in
     let d = c.in_err-picture.field-0.0 in
     let tells = rw c.in_ok-strike.ensures.exact at c.in_err-picture.ensures.defects in
@@ -85,14 +85,14 @@ returns-in_err-picture-clause-defects c =
 
 pub returns-clause-exact : goal.returns-clause-exact
 returns-clause-exact c =
-    let read = rw c.in_ok-asked.ensures.opening at c.in_ok-face.ensures.exact in
+    let read = c.in_ok-face.ensures.exact in
     let is = by_face c.args.request.now.job.now c.args.request.now.text.now c.args.request.now.font.now (job_view c.in_ok-asked.asked) c.in_ok-face.face
     c.in_ok-asked.ensures.exact c.in_ok-test_job.ensures.exact read in
     rw is (drawn_too _ _ (rw (c.in_ok-strike.ensures.exact, c.grows.ensures) at c.in_ok-picture.ensures.exact))
 
 pub returns-clause-picture : goal.returns-clause-picture
 returns-clause-picture c =
-    let read = rw c.in_ok-asked.ensures.opening at c.in_ok-face.ensures.exact in
+    let read = c.in_ok-face.ensures.exact in
     let job = c.args.request.now.job.now in
     let text = c.args.request.now.text.now in
     let font = c.args.request.now.font.now in
@@ -105,8 +105,8 @@ returns-clause-picture c =
 
 pub returns-clause-defects : goal.returns-clause-defects
 returns-clause-defects c =
-    let read = rw c.in_ok-asked.ensures.opening at c.in_ok-face.ensures.exact in
-    let none = rw c.in_ok-asked.ensures.opening at c.in_ok-face.ensures.defects in
+    let read = c.in_ok-face.ensures.exact in
+    let none = c.in_ok-face.ensures.defects in
     asked_defects {V = Picture} c.args.request.now.job.now c.args.request.now.text.now c.args.request.now.font.now (job_view c.in_ok-asked.asked)
     c.in_ok-face.face (Ok c.in_ok-picture.picture) c.in_ok-asked.ensures.exact read
     none (rw c.in_ok-strike.ensures.exact at c.in_ok-picture.ensures.defects)

@@ -1,0 +1,2 @@
+pub mod MapAsked
+pub mod UnitsFound

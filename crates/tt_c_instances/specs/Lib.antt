@@ -1,0 +1,2 @@
+pub mod VariationLists
+pub mod Maps
