@@ -1,0 +1,79 @@
+"""What the program answers of a face at an instance, by the plain readers of this folder: lines of `map` and `faces`,
+heights, and outlines before programs run."""
+import plain
+import wide
+from axes import MOST_TOLD, Fvar, coordinates_of, name_of, text_of
+from face import Refused, Tables, fault_of
+from glyphs import Gvar, Outlines
+from stores import Hvar, heights_of, pairs_store
+
+
+class Face:
+    """A face at an instance: None where none is asked for, else the word for a named instance or None, and the tags and
+    places of axes. A face is read by its number, or strictly by None."""
+
+    def __init__(self, file, asked, face=None):
+        self.tables = tables = Tables(file, face)
+        self.map = plain.Characters(file) if face is None else wide.Map(tables.cmap, tables.glyphs)
+        self.coordinates = coordinates_of(tables, *asked) if asked else []
+        self.is_varied = any(self.coordinates)
+        _, *heights, _, gap = tables.figures()
+        self.heights, self.hvar, self.gvar, self.pairs = [*heights, gap], None, None, None
+        if self.is_varied:
+            self.gvar = Gvar(tables, self.coordinates)
+            self.hvar = Hvar(tables, self.coordinates)
+            self.heights = heights_of(tables, self.coordinates, self.heights)
+            self.pairs = pairs_store(tables, self.coordinates)
+
+    @property
+    def has_advances(self):
+        """Tells whether HVAR gives the advances."""
+        return self.is_varied and self.hvar.is_there
+
+    def table_advance(self, glyph):
+        """Returns the advance of hmtx, moved where HVAR is there."""
+        advance = self.tables.advance(glyph)
+        return self.hvar.advance(glyph, advance) if self.has_advances else advance
+
+    def outlines(self, size=16, is_best=True):
+        return Outlines(self.tables, self.gvar, self.heights[:2], self.table_advance, self.has_advances, size, is_best)
+
+    def advance(self, glyph):
+        """Returns the advance in font units, by the phantom points where the instance has no HVAR."""
+        if self.is_varied and not self.has_advances:
+            return self.outlines().advance_by_deltas(glyph)
+        return self.table_advance(glyph)
+
+    def glyph(self, character):
+        """Returns the glyph of a character that is no selector."""
+        return self.map.glyph(character) if hasattr(self.map, "glyph") else self.map.of_unit(character, None)
+
+
+def mapped(file, text, asked):
+    """Returns the lines of `map`, or the refusal."""
+    try:
+        face = Face(file, asked)
+        glyphs = [(it, face.map.glyph(ord(it))) for it in text]
+        return "".join(f"U+{ord(it):04X} {glyph} {face.advance(glyph)}\n" for it, glyph in glyphs)
+    except (Refused, plain.Refused) as refused:
+        return fault_of(refused)
+
+
+def told(tables):
+    """Returns the lines of `faces` about axes and named instances, none where fvar has a defect."""
+    try:
+        fvar = Fvar(tables)
+    except Refused:
+        return []
+    lines = []
+    for axis in fvar.axes:
+        places = " ".join(text_of(it) for it in (axis.least, axis.default, axis.greatest))
+        lines.append(with_name(f"axis {axis.tag} {places}", name_of(tables, axis.name)))
+    for number, instance in enumerate(fvar.instances[:MOST_TOLD]):
+        places = ",".join(f"{axis.tag}={text_of(it)}" for axis, it in zip(fvar.axes, instance.places))
+        lines.append(with_name(f"instance {number} {places}", name_of(tables, instance.name)))
+    return lines
+
+
+def with_name(line, name):
+    return f"{line} {name}" if name else line
