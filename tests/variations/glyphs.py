@@ -153,6 +153,18 @@ class Glyf:
         reader.at += program
         return Glyph(start, left, reader.points(ends[-1] + 1), ends, [], program)
 
+    def told(self, number):
+        """Returns how many points and contours, or components, a glyph's header tells, and its components' numbers."""
+        start, end = self.offset(number), min(self.offset(number + 1), len(self.data))
+        if start + 10 > end or self.offset(number) == self.offset(number + 1):
+            return 0, []
+        contours = signed(self.data, start)
+        if contours < 0:
+            found = self.glyph(number).records
+            return len(found), [it.glyph for it in found]
+        last = start + 10 + 2 * contours - 2
+        return (contours + unsigned(self.data, last) + 1 if contours and last + 2 <= end else 0), []
+
     def bearing(self, number):
         """Returns a glyph's left side bearing, 0 where it is not there."""
         at = 4 * number if number < self.tables.pairs else 4 * self.tables.pairs + 2 * (number - self.tables.pairs) - 2

@@ -2,10 +2,13 @@
 heights, and outlines before programs run."""
 import plain
 import wide
-from axes import MOST_TOLD, Fvar, coordinates_of, name_of, text_of
-from face import Refused, Tables, fault_of
-from glyphs import Gvar, Outlines
+from axes import MOST_TOLD, Fvar, coordinates_of, name_of, optional, text_of
+from face import Refused, Tables, fault_of, unsigned
+from glyphs import Glyf, Gvar, Outlines
 from stores import Hvar, heights_of, pairs_store
+
+# Components are counted to so many levels, and best takes so many deltas at the most.
+DEEPEST, MOST_WORK = 8, 8_000_000
 
 
 class Face:
@@ -43,6 +46,22 @@ class Face:
         if self.is_varied and not self.has_advances:
             return self.outlines().advance_by_deltas(glyph)
         return self.table_advance(glyph)
+
+    def work(self, glyphs):
+        """Returns how many deltas best may go over for some glyphs and the control values, by their headers."""
+        if not self.is_varied:
+            return 0
+        axes, cvar = len(self.coordinates), optional(self.tables, "cvar", 8)
+        values = len(optional(self.tables, "cvt ", 1) or b"") // 2
+        is_cvar = cvar and unsigned(cvar, 0, 4) == 0x00010000
+        of_values = (unsigned(cvar, 4) & 0xFFF) * (values + axes) if is_cvar else 0
+        return of_values + sum(self.work_of(it, 0) for it in set(glyphs))
+
+    def work_of(self, glyph, depth):
+        """Returns how many deltas a glyph may go over, with those of its components."""
+        size, components = Glyf(self.tables).told(glyph)
+        here = self.gvar.count_of(glyph) * (4 + len(self.coordinates) + size)
+        return here + (sum(self.work_of(it, depth + 1) for it in components) if depth < DEEPEST else 0)
 
     def glyph(self, character):
         """Returns the glyph of a character that is no selector."""
