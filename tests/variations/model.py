@@ -9,6 +9,9 @@ from stores import Hvar, heights_of, pairs_store
 
 # Components are counted to so many levels, and best takes so many deltas at the most.
 DEEPEST, MOST_WORK = 8, 8_000_000
+# What the readers refuse a font by.
+FAULTS = Refused, plain.Refused
+MOST_COLUMNS, MOST_ROWS = 16384, 4096
 
 
 class Face:
@@ -74,7 +77,45 @@ def mapped(file, text, asked):
         face = Face(file, asked)
         glyphs = [(it, face.map.glyph(ord(it))) for it in text]
         return "".join(f"U+{ord(it):04X} {glyph} {face.advance(glyph)}\n" for it, glyph in glyphs)
-    except (Refused, plain.Refused) as refused:
+    except FAULTS as refused:
+        return fault_of(refused)
+
+
+def size_of(face, steps, size):
+    """Returns the refusal of the size of a line's picture, or its width and height."""
+    em, (ascent, descent, _) = face.tables.em, face.heights
+    width, height = sum(steps), -(-ascent * size // em) - descent * size // em
+    if width < 1 or height < 1:
+        return "62 EmptyPicture"
+    return "63 PictureLarge" if width > MOST_COLUMNS or height > MOST_ROWS else (width, height)
+
+
+def drawn_by_best(face, glyphs, size):
+    """Returns the refusal of a line that best draws, or width and height."""
+    if face.work(glyphs) > MOST_WORK:
+        return "65 WorkLarge"
+    made, steps = face.outlines(size), {}
+    for glyph in dict.fromkeys(glyphs):
+        left, right, *_ = made.of(glyph).phantom
+        steps[glyph] = max(0, (right[0] - left[0] + 32) // 64)
+    return size_of(face, [steps[it] for it in glyphs], size)
+
+
+def drawn(file, text, size, fit, asked):
+    """Returns the refusal of a line in a font without programs, or width and height of its picture."""
+    try:
+        face = Face(file, asked, 0 if fit == "best" else None)
+        glyphs = [face.glyph(ord(it)) for it in text]
+        if fit == "best":
+            return drawn_by_best(face, glyphs, size)
+        em = face.tables.em
+        steps = [(2 * face.advance(it) * size + em) // (2 * em) for it in glyphs]
+        told, made = size_of(face, steps, size), face.outlines(size, False)
+        if not isinstance(told, str):
+            for glyph in dict.fromkeys(glyphs):
+                made.of(glyph)
+        return told
+    except FAULTS as refused:
         return fault_of(refused)
 
 
