@@ -7,7 +7,7 @@ import sys
 from pathlib import Path
 
 TESTS = Path(__file__).resolve().parent.parent
-sys.path += [str(TESTS / it) for it in ("faces", "variations", "characters", "label")]
+sys.path[:0] = [str(TESTS / it) for it in ("variations", "faces", "characters", "label")]
 import axes
 import model
 import places

@@ -5,8 +5,9 @@ import subprocess
 from pathlib import Path
 
 import common
+import model
 from axes import MOST_TOLD, Fvar, name_of
-from face import Refused, Tables
+from face import Refused, Tables, fault_of
 from parts import asked_by
 from rows import rows as all_rows
 
@@ -81,9 +82,12 @@ def questions(asked):
 
 
 def told(font):
-    """Returns what variations.c answers of a font's axes and named instances."""
-    fvar, tables = Fvar(Tables(font, 0)), Tables(font, 0)
-    lines = []
+    """Returns what variations.c answers of a font's axes and named instances, none where fvar is not whole."""
+    tables = model.Face(font, None, 0).tables
+    try:
+        fvar, lines = Fvar(tables), []
+    except Refused:
+        return ""
     for axis in fvar.axes:
         tag = axis.tag.encode("latin-1").hex().upper()
         lines.append(f"axis {tag} {axis.least} {axis.default} {axis.greatest} {name_of(tables, axis.name)}/")
@@ -97,9 +101,8 @@ def lists(asked):
     for font in {it.font: it for it in all_rows() if it.font is not None}:
         try:
             answer = told(font)
-        except Refused as refused:
-            table, offset, number, name = refused.args
-            answer = "" if number == 3 else f"refused tt_render: {table}+{offset}: {number} {name}"
+        except model.FAULTS as refused:
+            answer = f"refused tt_render: {fault_of(refused)}"
         yield "axes and instances, by C", ["axes", str(asked.folder(font) / "F.ttf"), "3", "16", "0", "-"], answer
 
 

@@ -38,8 +38,8 @@ def compiled(room):
 def sums_of(line):
     """Returns the step of a glyph and the sums of its outline and of its picture."""
     _, step, ends, points, left, top, rows = line.split()
-    found = [tuple(map(int, it.split(","))) for it in points.strip("-;").split(";") if it]
-    bits = ["".join(f"{int(it, 16):04b}" for it in row) for row in rows.strip("-").split(",") if row]
+    found = [tuple(map(int, it.split(","))) for it in points.split(";") if it not in ("", "-")]
+    bits = ["".join(f"{int(it, 16):04b}" for it in row) for row in rows.split(",") if row not in ("", "-")]
     return DIGITS[int(step)], sum_of_outline(ends, found) + sum_of_ink(bits, int(left), int(top))
 
 
