@@ -4,12 +4,10 @@ import struct
 from itertools import accumulate
 
 import small_fonts as small
-from hostile import outlines
-from hostile.parts import PLAIN, POINTS, RECORDS, TEXT, Hostile, calls, composite_of, dotted, looping, pushes
-from hostile.programs import LONG
+from hostile.parts import PLAIN, POINTS, RECORDS, SLANTED, TEXT, Hostile, calls, composite_of, function, slanted, tree
 
-# The greatest counts: deltas of a line, tuples of a glyph, axes, numbers of a row, and what a count of 16 bits tells.
-DELTAS, TUPLES, AXES, NUMBERS, COUNT = 8_000_000, 4095, 64, 512, 65535
+# The greatest counts: deltas of a line, tuples of a glyph, axes, numbers of a row, lookups, and what 16 bits tell.
+DELTAS, TUPLES, AXES, NUMBERS, LOOKUPS, COUNT = 8_000_000, 4095, 64, 512, 32, 65535
 ONE = 0x4000
 # Bits of a tuple: a peak, a region and point numbers of its own.
 PEAK, REGION, NUMBERED = 0x8000, 0x4000, 0x2000
@@ -121,7 +119,7 @@ def parts(depths=2):
 
 def eight_deep():
     """A composite of two composites, eight levels deep, each with tuples."""
-    count = DELTAS // 2**9 // (4 + 1 + 2) // 2
+    count = DELTAS // (255 * (4 + 1 + 2) + 256 * (4 + 1 + 5))
     composite = tuples_of(count, named(2, 2), NUMBERED)
     leaf = tuples_of(count, named(4, 2), NUMBERED)
     glyphs = [composite_of([it + 2] * 2) for it in range(8)]
@@ -161,23 +159,22 @@ def advances():
     return font_of([b""] * TEXT, [b""] * TEXT, HALF, AXES, others={"HVAR": hvar()}, shared=())
 
 
+def moved_pairs():
+    """A pair subtable by classes that applies to all glyphs, with a value of 0 that the first row of a store moves. Its
+    coverage, its classes and its device are behind the record of values."""
+    head = small.words(2, 20, 0x44, 0, 30, 30, 1, 1, 0, 34)
+    return head + small.words(2, 1, 0, COUNT, 0) + small.words(2, 0) + small.words(0, 0, 0x8000)
+
+
 def pairs():
-    """The same with pairs of as many lookups as are taken, each with a value of such a row."""
-    value = small.words(1, 0, 0x8000)
-    subtable = small.words(2, 24, 0x44, 0, 32, 32, 1, 1, 0, 40)
-    coverage, classes = small.words(2, 1, 0, COUNT, 0, 0), small.words(2, 0)
-    subtable = subtable + bytes(24 - len(subtable)) + coverage[:8] + classes + bytes(40 - 36) + small.words(0, 0, 0x8000) + value
-    coverage_at, classes_at, device_at = 20, 30, 34
-    subtable = small.words(2, coverage_at, 0x44, 0, classes_at, classes_at, 1, 1, 0, device_at)
-    subtable += small.words(2, 1, 0, COUNT, 0) + small.words(2, 0) + small.words(0, 0, 0x8000)
-    lookups = 32
-    one = small.words(2, 0, 1, 8) + subtable
-    heads = 2 + 2 * lookups
-    table = small.words(lookups, *(heads + len(one) * it for it in range(lookups))) + one * lookups
-    feature = small.words(1) + b"kern" + small.words(8, 0, lookups, *range(lookups))
+    """As many glyphs as a line has, and for each pair as many lookups as are taken, each with a value that is moved."""
+    lookup = small.words(2, 0, 1, 8) + moved_pairs()
+    first = 2 + 2 * LOOKUPS
+    lookups = small.words(LOOKUPS, *(first + len(lookup) * it for it in range(LOOKUPS))) + lookup * LOOKUPS
+    feature = small.words(1) + b"kern" + small.words(8, 0, LOOKUPS, *range(LOOKUPS))
     script = small.words(1) + b"DFLT" + small.words(8, 4, 0, 0, 0xFFFF, 1, 0)
     at = 10 + len(script)
-    gpos = small.words(1, 0, 10, at, at + len(feature)) + script + feature + table
+    gpos = small.words(1, 0, 10, at, at + len(feature)) + script + feature + lookups
     gdef = small.words(1, 3, 0, 0, 0, 0, 0) + longs(18) + store(1)
     tables = {"GPOS": gpos, "GDEF": gdef}
     return font_of([b""] * TEXT, [b""] * TEXT, HALF, AXES, others=tables, shared=())
@@ -201,9 +198,10 @@ def named_instances():
 
 
 def asking():
-    """A program that asks for 64 coordinates again and again, and as many deltas as may be beside it."""
-    made = looping(b"\x91\x22", before=b"", leaf=dotted, deep=False)
-    return made
+    """A glyph whose program asks for 64 coordinates again and again."""
+    leaf = slanted(SLANTED + calls(970_000 // 4))
+    others = {"fpgm": function(b"\x91\x22")}
+    return font_of([*tree(2, leaf)], [b""] * 3, HALF, AXES, hidden=2, others=others, shared=())
 
 
 FONTS = {
@@ -221,4 +219,5 @@ FONTS = {
     "gdef": pairs,
     "avar": long_lists,
     "instances": named_instances,
+    "coordinates_asked": asking,
 }
