@@ -128,11 +128,16 @@ def told(tables):
     lines = []
     for axis in fvar.axes:
         places = " ".join(text_of(it) for it in (axis.least, axis.default, axis.greatest))
-        lines.append(with_name(f"axis {axis.tag} {places}", name_of(tables, axis.name)))
+        lines.append(with_name(f"axis {tag_of(axis)} {places}", name_of(tables, axis.name)))
     for number, instance in enumerate(fvar.instances[:MOST_TOLD]):
-        places = ",".join(f"{axis.tag}={text_of(it)}" for axis, it in zip(fvar.axes, instance.places))
+        places = ",".join(f"{tag_of(axis)}={text_of(it)}" for axis, it in zip(fvar.axes, instance.places))
         lines.append(with_name(f"instance {number} {places}", name_of(tables, instance.name)))
     return lines
+
+
+def tag_of(axis):
+    """Returns the tag of an axis as it is told."""
+    return "".join(it if " " <= it <= "~" else "?" for it in axis.tag)
 
 
 def with_name(line, name):
