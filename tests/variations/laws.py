@@ -26,6 +26,11 @@ COMMANDS = (
     ("label", ["--size=20", "--kern", "--lines"], "lines"),
     ("bdf", ["--size=16"], "text"),
 )
+# Some of them, with ways to fit, for what is tried of many fonts.
+SHORT = [(*COMMANDS[0], it) for it in FITS] + [(*COMMANDS[5], "best")]
+EACH = [(*it, fit) for it, fit in itertools.product(COMMANDS, FITS)]
+# Each so many fonts are tried by each command.
+STEP = 16
 NOTE = b"is a variable font; "
 
 
@@ -54,10 +59,10 @@ def may_be_asked(fvar):
     return len(set(tags)) == len(tags) and all(map(is_printed, tags))
 
 
-def answers(asked, folder, instance):
-    """Yields the answers of each command with each way to fit, and of `map`; of standard error without the note on a
+def answers(asked, folder, instance, commands):
+    """Yields the answers of commands, each with a way to fit, and of `map`; of standard error without the note on a
     variable font."""
-    for (command, words, place), fit in itertools.product(COMMANDS, FITS):
+    for command, words, place, fit in commands:
         stdin = f"{TEXT}\nB\n\n".encode() if place == "lines" else b""
         behind = ["--", TEXT] if place == "text" else []
         got = asked.run([command, *words, f"--fit={fit}", *instance, "F.ttf", *behind], folder, stdin)
@@ -70,9 +75,9 @@ def without_note(got):
     return got[0], got[1], b"".join(lines)
 
 
-def why_unlike(asked, one, other):
+def why_unlike(asked, one, other, commands=SHORT):
     """Returns the first commands of two folders and instances that answer otherwise."""
-    both = zip(answers(asked, *one), answers(asked, *other))
+    both = zip(answers(asked, *one, commands), answers(asked, *other, commands))
     return [f"{name}: {got}, and {want}" for (name, got), (_, want) in both if got != want][:3]
 
 
@@ -91,10 +96,11 @@ def default_cases():
 
 
 def defaults(asked):
-    """The default that is asked for is the font without an instance: each command, each way to fit, byte for byte."""
-    cases = list(default_cases())
-    ask = lambda it: why_unlike(asked, (asked.folder(it[1]), [it[2]]), (asked.folder(it[1]), []))
-    for (name, _, option), why in zip(cases, asked.each(ask, cases)):
+    """The default that is asked for is the font without an instance, byte for byte: by each command and way to fit of
+    some fonts, by some commands of the others."""
+    cases = [(*it, SHORT if at % STEP else EACH) for at, it in enumerate(default_cases())]
+    ask = lambda it: why_unlike(asked, (asked.folder(it[1]), [it[2]]), (asked.folder(it[1]), []), it[3])
+    for (name, _, option, _), why in zip(cases, asked.each(ask, cases)):
         common.verdict(f"{option} of {name}", why)
     if len(cases) < 60:
         common.verdict("defaults", [f"there are only {len(cases)} fonts"])
@@ -231,7 +237,7 @@ def advice(asked):
         (static, "--axis=wght=700", "fvar+0: 3 NoTable", "is no variable font"),
         (static, "--instance=Bold", "fvar+0: 3 NoTable", "is no variable font"),
         (medium, "--axis=wght=1,wdth=100", "fvar+8: 27 NoAxis", "has no axis wdth; tt_render faces lists its axes"),
-        (medium, "--axis=a=1", "fvar+8: 27 NoAxis", "has no axis a; tt_render faces lists its axes"),
+        (medium, "--axis=a=1", "fvar+8: 27 NoAxis", "has no axis a   ; tt_render faces lists its axes"),
         (medium, "--instance=Bold", "fvar+12: 28 NoInstance", "has no such instance; tt_render faces lists them"),
         (medium, "--instance=4", "fvar+12: 28 NoInstance", "has no such instance; tt_render faces lists them"),
     ):

@@ -73,7 +73,9 @@ def answer_of(row):
         errors = [it.removeprefix("tt_render: ") for it in answer["stderr"]]
         return "0", re.sub(r"\+$|(?<=:)\+|(?<=\+)\+", "", picture(answer["stdout_hex"])), "/".join(errors)
     if answer.endswith("\n"):
-        return "0", answer.replace("\n", "/"), ""
+        # The line gap of these fonts, 0, is told now too.
+        told = re.sub(r"^(font \d+ -?\d+ -?\d+ \d+)$", r"\1 0", answer, flags=re.M)
+        return "0", told.replace("\n", "/"), ""
     return str(status_of(answer)), "", answer.removeprefix("tt_render: ")
 
 
