@@ -140,13 +140,15 @@ def with_table(tables, tag, table):
 
 
 OPTIONAL = b"avar", b"HVAR", b"MVAR", b"GDEF", b"cvar"
+# Rows whose tables are no whole ones, or are counted whether they are there or not.
+APART = "past the end", "too many"
 
 
 def optional_cases():
     """Yields a name, a font with a broken table, the font without the table, and the option of an instance."""
     for name, font in sound_fonts().items():
         tables, fvar = tables_in(font), Fvar(Tables(font, 0))
-        if not may_be_asked(fvar):
+        if not may_be_asked(fvar) or any(it in name for it in APART):
             continue
         option = words_of([(it.default + it.greatest) // 2 + 1 for it in fvar.axes], fvar)
         for tag in (it for it in OPTIONAL if it in tables):
