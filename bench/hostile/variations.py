@@ -61,7 +61,7 @@ def named(points, step):
     if step == 1:
         return b"\0" + runs(bytes([7]) * (points + 4)) * 2
     count = -(-points // step)
-    ways = runs(bytes((it * 37) % 120 for it in range(count)))
+    ways = runs(bytes(it % 2 for it in range(count)))
     return numbers(points, step) + ways * 2
 
 
@@ -83,10 +83,10 @@ def font_of(glyphs, data, axis="a000=0.5", axes=1, hidden=0, others=(), shared=(
     return Hostile(made, small.line_text(len(shown)), axis=axis)
 
 
-def deltas(step, glyph=scattered, contours=1):
+def deltas(step, glyph=scattered, contours=1, points=POINTS):
     """One glyph of as many points as a glyph has, and as many tuples as may be."""
-    count = DELTAS // (4 + 1 + POINTS + contours)
-    return font_of([glyph(POINTS)], [tuples_of(count, named(POINTS, step), NUMBERED)])
+    count = DELTAS // (4 + 1 + points + contours)
+    return font_of([glyph(points)], [tuples_of(count, named(points, step), NUMBERED)])
 
 
 def small_glyphs(step):
@@ -208,7 +208,7 @@ FONTS = {
     "deltas_all": lambda: deltas(1),
     "deltas_half": lambda: deltas(2),
     "deltas_few": lambda: deltas(100),
-    "deltas_threes": lambda: deltas(3, in_threes, POINTS // 3),
+    "deltas_threes": lambda: deltas(3, in_threes, POINTS // 3, POINTS - 1),
     "deltas_small": lambda: small_glyphs(2),
     "tuples_empty": empty_tuples,
     "tuples_wide": wide_tuples,
