@@ -8,7 +8,8 @@ from hostile.parts import PLAIN, POINTS, RECORDS, SLANTED, TEXT, Hostile, calls,
 
 # The greatest counts: deltas of a line, tuples of a glyph, axes, numbers of a row, lookups, and what 16 bits tell.
 DELTAS, TUPLES, AXES, NUMBERS, LOOKUPS, COUNT = 8_000_000, 4095, 64, 512, 32, 65535
-ONE = 0x4000
+# Peaks are near to the half of an axis, so that no axis leaves nothing of a tuple or a region.
+ONE, NEAR = 0x4000, 0x2001
 # Bits of a tuple: a peak, a region and point numbers of its own.
 PEAK, REGION, NUMBERED = 0x8000, 0x4000, 0x2000
 # Halves of all axes, at which no peak is.
@@ -104,7 +105,7 @@ def empty_tuples():
 def wide_tuples():
     """Tuples of 64 axes, each with a region of its own, of glyphs without a point."""
     count = DELTAS // ((4 + AXES) * TUPLES)
-    ends = small.words(*[ONE] * AXES, *[1] * AXES, *[ONE] * AXES)
+    ends = small.words(*[NEAR] * AXES, *[1] * AXES, *[ONE] * AXES)
     data = [tuples_of(TUPLES, b"", PEAK | REGION, ends)] * count
     return font_of([b""] * count, data, HALF, AXES, shared=())
 
@@ -137,7 +138,7 @@ def control_values():
 
 def regions(count, axes):
     """A list of regions that all hold in part at the half of each axis."""
-    return small.words(axes, count) + small.words(1, ONE, ONE) * (axes * count)
+    return small.words(axes, count) + small.words(1, NEAR, ONE) * (axes * count)
 
 
 def store(rows, count=NUMBERS, axes=AXES):
