@@ -1,5 +1,5 @@
-"""Fonts whose variations take as long as they can: tuples, points between named ones, stores with many regions, lists of
-coordinates, named instances. All are drawn at an instance."""
+"""Fonts whose variations take as long as they can: tuples, points between named ones, stores with many regions, lists
+of coordinates, named instances. All are drawn at an instance."""
 import struct
 from itertools import accumulate
 
@@ -32,7 +32,8 @@ def gvar(glyphs, axes=1, shared=()):
     """A table of the bytes of each glyph, and of shared tuples."""
     tuples, places = b"".join(small.words(*it) for it in shared), [0, *accumulate(map(len, glyphs))]
     first = 20 + 4 * len(places)
-    head = small.words(1, 0, axes, len(shared)) + longs(first) + small.words(len(glyphs), 1) + longs(first + len(tuples))
+    head = small.words(1, 0, axes, len(shared)) + longs(first)
+    head += small.words(len(glyphs), 1) + longs(first + len(tuples))
     return head + longs(*places) + tuples + b"".join(glyphs)
 
 
@@ -45,7 +46,8 @@ def tuples_of(count, data, bits=0, more=b""):
 
 def runs(values, size=64):
     """Deltas of a byte, in runs."""
-    return b"".join(bytes([len(part) - 1]) + part for part in (values[it : it + size] for it in range(0, len(values), size)))
+    parts = (values[it : it + size] for it in range(0, len(values), size))
+    return b"".join(bytes([len(it) - 1]) + it for it in parts)
 
 
 def numbers(points, step):
@@ -73,11 +75,13 @@ def scattered(points):
 
 def in_threes(points):
     """Contours of three points."""
-    return small.simple(*[[(3 * it % 900, 5), (3 * it % 900 + 90, 700), (3 * it % 900 + 30, 300)] for it in range(points // 3)])
+    starts = (3 * it % 900 for it in range(points // 3))
+    return small.simple(*[[(it, 5), (it + 90, 700), (it + 30, 300)] for it in starts])
 
 
 def font_of(glyphs, data, axis="a000=0.5", axes=1, hidden=0, others=(), shared=((ONE,),), **sizes):
-    """A font whose glyphs from 1 on have these bytes in gvar, the last of them no character, and its line at an instance."""
+    """A font whose glyphs from 1 on have these bytes in gvar, the last of them no character, and its line at an
+    instance."""
     shown = glyphs[: len(glyphs) - hidden]
     tables = {"fvar": fvar(axes), "gvar": gvar([b"", *data], axes, shared), **PLAIN, **dict(others)}
     made = small.line_font(shown, hidden=glyphs[len(shown) :], others=tables, **sizes)

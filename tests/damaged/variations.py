@@ -48,7 +48,8 @@ LEAST, RANDOM = 20_000, 9_000
 KINDS = "map", "none", "best"
 TEXT, SIZE = "AB", 16
 # The refusals of a line in a font with programs.
-MAY_COME = re.compile(r"tt_render: (?:[fg]var\+\d+: \d+ \w+|glyf\+\d+: 23 CoordRange|file\+\d+: 4 TableRange|6[235] \w+)\|")
+OF_TABLES = r"[fg]var\+\d+: \d+ \w+|glyf\+\d+: 23 CoordRange|file\+\d+: 4 TableRange"
+MAY_COME = re.compile(rf"tt_render: (?:{OF_TABLES}|6[235] \w+)\|")
 # tt_render is asked about one in so many.
 EACH = 97
 
@@ -115,7 +116,8 @@ def why_wrong(font, kind, option, answer, has_programs):
         good = status == "0" or bool(MAY_COME.fullmatch(rest))
         return None if good else f"'{answer}' may not come"
     want = wanted(font, kind, option)
-    good = answer.startswith(want) and answer.endswith("|") if want.startswith("0 ") and kind != "map" else answer == want
+    is_drawn = want.startswith("0 ") and kind != "map"
+    good = answer.startswith(want) and answer.endswith("|") if is_drawn else answer == want
     return None if good else f"'{answer}', and not '{want}'"
 
 
@@ -167,7 +169,8 @@ def damaged_variations(count=RANDOM):
         has_programs = bool({b"prep", b"fpgm"} & set(tables_in(font)))
         damaged = list(enumerate(fonts_of(font, -(-count // len(found)))))
         total += len(damaged)
-        pieces += [(name, option, is_over_memory, has_programs, damaged[at : at + 250]) for at in range(0, len(damaged), 250)]
+        parts = (damaged[at : at + 250] for at in range(0, len(damaged), 250))
+        pieces += [(name, option, is_over_memory, has_programs, it) for it in parts]
     with ProcessPoolExecutor(os.cpu_count()) as pool:
         ended = list(pool.map(tried, pieces))
     failures = [it for _, why in ended for it in why]

@@ -88,7 +88,8 @@ class Varied:
         words = ["map"] if self.kind == "map" else ["draw", "--size", str(self.size), "--fit", "none"]
         status, said, errors = run(([*words, "--axis", self.option], [self.text]), self.file)
         wanted = self.wanted()
-        got = said.decode() if self.kind == "map" and status == 0 else errors.decode().removeprefix("tt_render: ").strip()
+        got = errors.decode().removeprefix("tt_render: ").strip()
+        got = said.decode() if self.kind == "map" and status == 0 else got
         if isinstance(wanted, tuple):
             got = tuple(int(it) for it in said.split(b"\n", 2)[1].split()) if status == 0 else got
         is_drawn = isinstance(wanted, tuple) or wanted.endswith("\n")

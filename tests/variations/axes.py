@@ -1,5 +1,5 @@
-"""Axes and named instances of a variable font, and the coordinates of an instance: a plain reader of the tables fvar and
-avar, written from OpenType's chapters and this project's rules alone. It shares no code with tt_render.
+"""Axes and named instances of a variable font, and the coordinates of an instance: a plain reader of the tables fvar
+and avar, written from OpenType's chapters and this project's rules alone. It shares no code with tt_render.
 
 Places on an axis are in 1/65536 of the axis' unit, coordinates in 1/65536 from -1 to 1."""
 import re

@@ -6,8 +6,8 @@
    PLACES are places on the axes in 16.16, with commas. A font with neither prep nor fpgm is not hinted. The first line
    is `COORDINATES ASCENT DESCENT GAP`, coordinates in 16.16 with commas, heights in font units. Then a line for each
    code point, which is hexadecimal: `GLYPH STEP ENDS POINTS LEFT TOP ROWS`. STEP is in pixels; ENDS are one past the
-   last point of each contour, POINTS are `X,Y,ON` in 1/64 pixel from the left phantom point with `;` behind each. LEFT is
-   the bitmap's first column, TOP the row above its first, and ROWS are hexadecimal with a comma behind each. What is
+   last point of each contour, POINTS are `X,Y,ON` in 1/64 pixel from the left phantom point with `;` behind each. LEFT
+   is the bitmap's first column, TOP the row above its first, and ROWS are hexadecimal with a comma behind each. What is
    empty is `-`. The face is opened anew for each instance, since FreeType adds up heights over several instances. */
 #include <stdio.h>
 #include <stdlib.h>
@@ -73,7 +73,8 @@ int main(int count, char **words) {
   need(FT_Init_FreeType(&library), "start");
   need(FT_Property_Set(library, "truetype", "interpreter-version", &version), "version 35");
   need(FT_New_Face(library, words[1], 0, &face), words[1]);
-  if (!has_table(FT_MAKE_TAG('p', 'r', 'e', 'p')) && !has_table(FT_MAKE_TAG('f', 'p', 'g', 'm'))) how |= FT_LOAD_NO_HINTING;
+  if (!has_table(FT_MAKE_TAG('p', 'r', 'e', 'p')) && !has_table(FT_MAKE_TAG('f', 'p', 'g', 'm')))
+    how |= FT_LOAD_NO_HINTING;
   set_instance(words[3]);
   need(FT_Set_Pixel_Sizes(face, 0, strtoul(words[2], NULL, 10)), "a size");
   for (int i = 4; i < count; i++) {

@@ -1,5 +1,5 @@
-"""Outlines of glyphs at an instance, before any program is run: a plain reader of glyf, loca and gvar, written from their
-chapters and this project's rules alone."""
+"""Outlines of glyphs at an instance, before any program is run: a plain reader of glyf, loca and gvar, written from
+their chapters and this project's rules alone."""
 import struct
 from typing import NamedTuple
 

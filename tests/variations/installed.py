@@ -67,7 +67,8 @@ def outline_sums(answers, path, beside, glyphs):
     for line in common.run(words)[1].decode().splitlines():
         words = line.split()
         at, behind = words.index("ends"), words.index("points")
-        left, ends, numbers = int(words[words.index("phantom") + 1]), words[at + 1 : behind], map(int, words[behind + 1 :])
+        left, ends = int(words[words.index("phantom") + 1]), words[at + 1 : behind]
+        numbers = map(int, words[behind + 1 :])
         points = [(x - left, y, on) for x, y, on in zip(numbers, numbers, numbers)]
         sums.append(sum_of_outline(",".join(ends) or "-", points))
     return sums
@@ -82,7 +83,8 @@ def measured(asked, path, beside):
     units = re.findall(r"^U\+[0-9A-F]+ (\d+) -?\d+ (\d+)", said, re.M)
     if not figures or not line:
         return None
-    return [int(it) for it in figures.groups()], int(line[1]), [int(it[0]) for it in units], [int(it[1]) for it in units]
+    glyphs, steps = ([int(it[at]) for it in units] for at in (0, 1))
+    return [int(it) for it in figures.groups()], int(line[1]), glyphs, steps
 
 
 def picture_sums(asked, path, beside, baseline):
@@ -152,7 +154,8 @@ OTHERS = ",".join(f"-{it}" for it in "ccmp locl rlig rclt calt clig liga mark mk
 
 
 def beside_harfbuzz(asked, path, beside):
-    """Returns how many advances of the characters, and kerned pairs of two texts, are HarfBuzz's; and how many there are."""
+    """Returns how many advances of the characters, and kerned pairs of two texts, are HarfBuzz's, and how many there
+    are."""
     same, all_ = Counter(), Counter()
     lines = asked.run(["map", "--axis", beside.option, "--", path, CHARACTERS])[1].decode().splitlines()
     advances = {int(it.split()[-2]): int(it.split()[-1]) for it in lines}

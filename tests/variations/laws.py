@@ -228,7 +228,8 @@ def command_line(asked):
                          ("--instance=99999999999999999999999", "fvar+12: 28 NoInstance")):
         for command in ("draw --size=16", "measure --size=16", "map", "bdf --size=16"):
             got = asked.run([*command.split(), options, "F.ttf", "A"], folder)
-            common.verdict(f"{command} {options}", [str(got)] * (got[0] != 1 or not got[2].startswith(f"tt_render: {why}\n".encode())))
+            good = got[0] == 1 and got[2].startswith(f"tt_render: {why}\n".encode())
+            common.verdict(f"{command} {options}", [str(got)] * (not good))
 
 
 def advice(asked):
@@ -249,4 +250,5 @@ def advice(asked):
     note = "F.ttf: is a variable font; its default instance is drawn (--instance, --axis; faces lists them)"
     for words, told in (([], [note]), (["--axis=wght=400"], []), (["--instance=1"], [])):
         status, _, errors = asked.run(["label", "--size=16", *words, "F.ttf", "A"], asked.folder(medium))
-        common.verdict(f"the note of {words}", [f"{status} {errors}"] * ((status, errors) != (0, labels.lines_of(told))))
+        good = (status, errors) == (0, labels.lines_of(told))
+        common.verdict(f"the note of {words}", [f"{status} {errors}"] * (not good))

@@ -74,7 +74,8 @@ def questions(asked):
         named, values = asked_by(row) or (None, [])
         call = "pens" if row.is_kerned else row.call
         path = asked.folder(row.font) / "F.ttf"
-        yield f"row {number}, {row.name}, by C", words_of(call, path, row, values, number_of(row, named)), answer_of(row)
+        words = words_of(call, path, row, values, number_of(row, named))
+        yield f"row {number}, {row.name}, by C", words, answer_of(row)
     medium = next(it for it in all_rows() if it.name.startswith("instance 'Medium'"))
     path = asked.folder(medium.font) / "F.ttf"
     for count, answer in ((MOST_AXES, answer_of(medium)), (MOST_AXES + 1, "refused tt_render: 73 AxesMany")):

@@ -30,8 +30,9 @@ DIGITS = "0123456789abcdefghijklmnopqrstuvwxyz"
 
 def compiled(room):
     path, source = Path(room, "by_freetype"), Path(__file__).with_name("by_freetype.c")
-    flags = subprocess.run(["pkg-config", "--cflags", "--libs", "freetype2"], capture_output=True, text=True, check=True)
-    subprocess.run(["cc", "-O2", "-Wall", "-o", path, source, *flags.stdout.split()], check=True)
+    words = ["pkg-config", "--cflags", "--libs", "freetype2"]
+    flags = subprocess.run(words, capture_output=True, text=True, check=True).stdout.split()
+    subprocess.run(["cc", "-O2", "-Wall", "-o", path, source, *flags], check=True)
     return path
 
 

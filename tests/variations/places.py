@@ -44,7 +44,9 @@ def places_of(path):
     ends, and others by chance."""
     fvar, chance = Fvar(Tables(path.read_bytes(), 0)), random.Random(path.name)
     defaults = tuple(it.default for it in fvar.axes)
-    found = [defaults[:at] + (it,) + defaults[at + 1 :] for at, axis in enumerate(fvar.axes) for it in ends_and_halves(axis)]
+    found = []
+    for at, axis in enumerate(fvar.axes):
+        found += [defaults[:at] + (it,) + defaults[at + 1 :] for it in ends_and_halves(axis)]
     named = list(dict.fromkeys(tuple(it.places) for it in fvar.instances))
     found += chance.sample(named, min(6, len(named)))
     found += [tuple(it.greatest for it in fvar.axes), tuple(it.least for it in fvar.axes)]

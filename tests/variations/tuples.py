@@ -62,7 +62,8 @@ def deltas(data, at, count):
 
 
 def on_tuple(coordinates, peaks, region):
-    """Returns how much of a tuple holds, from 0 to 65536; the region of its own is a list of starts and ends, or None."""
+    """Returns how much of a tuple holds, from 0 to 65536; the region of its own is a list of starts and ends, or
+    None."""
     share = ONE
     for axis, (at, peak) in enumerate(zip(coordinates, peaks)):
         if peak == 0:
