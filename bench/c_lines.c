@@ -1,8 +1,9 @@
 /* Draws the lines of standard input by one call of tt_draw_lines, to be measured beside `tt_render draw --lines`:
 
-     c_lines FIT SIZE FONT
+     c_lines FIT SIZE FONT [PLACE]
 
-   where FIT is a number of the header. At most 1 MiB of glyphs is cached. Nothing is written. */
+   where FIT is a number of the header, and PLACE a variable font's weight in 16.16. At most 1 MiB of glyphs is cached.
+   Nothing is written. */
 #include "tt_render.h"
 
 #include <stdio.h>
@@ -26,7 +27,7 @@ int main(int argc, char **argv) {
   size_t font_bytes, count = 0, at = 0;
   FILE *file;
 
-  if (argc != 4 || !(file = fopen(argv[3], "rb"))) return 1;
+  if (argc < 4 || !(file = fopen(argv[3], "rb"))) return 1;
   font_bytes = fread(font, 1, FONT_BYTES, file);
   while (count < LINES && at + 4096 < TEXT_BYTES && fgets((char *)texts + at, 4096, stdin)) {
     at += strcspn((char *)texts + at, "\n");
@@ -34,6 +35,10 @@ int main(int argc, char **argv) {
   }
   job.fit = strtoul(argv[1], 0, 10);
   job.size = strtoul(argv[2], 0, 10);
+  if (argc > 4) {
+    job.axes = 1;
+    job.axis[0] = (struct tt_axis){'w' << 24 | 'g' << 16 | 'h' << 8 | 't', (int32_t)strtol(argv[4], 0, 10)};
+  }
   tt_draw_lines(font, font_bytes, texts, at, ends, count, &job, 1 << 20, rows, ROOM, lines, LINES, &answer);
   return answer.status != TT_DONE;
 }

@@ -3,12 +3,14 @@
      freetype_draw SIZE MARGIN FONT TEXT
 
    writes the line of a UTF-8 text as P4, at SIZE pixels per em with MARGIN pixels round it. Outlines are not fitted,
-   and dropouts are not filled. Advances are rounded to whole pixels; ascent and descent are hhea's, rounded up. */
+   and dropouts are not filled. Advances are rounded to whole pixels; ascent and descent are hhea's, rounded up. A
+   variable font is drawn at the places on its axes that PLACES has, in 16.16 with commas. */
 #include "line.h"
 
 #include <ft2build.h>
 #include FT_FREETYPE_H
 #include FT_ADVANCES_H
+#include FT_MULTIPLE_MASTERS_H
 #include FT_OUTLINE_H
 #include FT_TRUETYPE_TABLES_H
 
@@ -23,6 +25,17 @@ static const char *const name = "freetype_draw";
 
 static void need(FT_Error error, const char *what) {
   if (error) stop(what);
+}
+
+static void set_instance(FT_Face face) {
+  enum { MOST_AXES = 64 };
+  FT_Fixed places[MOST_AXES];
+  FT_UInt count = 0;
+  char *at = getenv("PLACES");
+
+  if (!at) return;
+  for (; *at && count < MOST_AXES; at += *at == ',') places[count++] = strtol(at, &at, 10);
+  need(FT_Set_Var_Design_Coordinates(face, count, places), "the instance is refused");
 }
 
 /* Fills in the glyph and the pen of each character; returns how many there are, and leaves where the line ends. */
@@ -102,6 +115,7 @@ static struct picture draw_line(const struct line *line) {
 
   need(FT_Init_FreeType(&library), "no library");
   need(FT_New_Face(library, line->font, 0, &face), "the font is refused");
+  set_instance(face);
   need(FT_Set_Pixel_Sizes(face, 0, line->size), "the size is refused");
   hhea = FT_Get_Sfnt_Table(face, FT_SFNT_HHEA);
   if (!hhea) stop("no hhea");

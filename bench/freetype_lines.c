@@ -57,6 +57,7 @@ int main(int argc, char **argv) {
   line = (struct line){atol(argv[1]), atol(argv[2]), argv[3], text};
   need(FT_Init_FreeType(&library), "no library");
   need(FT_New_Face(library, line.font, 0, &face), "the font is refused");
+  set_instance(face);
   need(FT_Set_Pixel_Sizes(face, 0, line.size), "the size is refused");
   hhea = FT_Get_Sfnt_Table(face, FT_SFNT_HHEA);
   if (!hhea) stop("no hhea");

@@ -1,5 +1,5 @@
 """All hostile fonts by their families and names."""
-from hostile import copies, disorder, kerning, level, maps, mixed, opcodes, outlines, programs
+from hostile import copies, disorder, kerning, level, maps, mixed, opcodes, outlines, programs, variations
 
 # The font whose seconds are the measure of all.
 STANDARD = "two"
@@ -9,6 +9,7 @@ FAMILIES = {
     "copies": copies.FONTS,
     "maps": maps.FONTS,
     "kerning": kerning.FONTS,
+    "variations": variations.FONTS,
     "outlines": outlines.FONTS,
     "level": level.FONTS,
     "mixed": mixed.FONTS,
@@ -18,6 +19,8 @@ FAMILIES = {
 }
 # Families of which each font is only drawn: there are many of them.
 DRAWN_ONLY = {"opcodes", "mutants"}
+# Fonts that are drawn with --kern too.
+KERNED = {*kerning.FONTS, "gdef"}
 FONTS = {name: make for fonts in FAMILIES.values() for name, make in fonts.items()}
 
 
@@ -36,4 +39,4 @@ def is_left_out(name, job, first):
     for the fonts of kerning alone.
     """
     drawn_only = any(name in FAMILIES[it] for it in DRAWN_ONLY)
-    return drawn_only and job != first or job == "kerned" and name not in FAMILIES["kerning"]
+    return drawn_only and job != first or job == "kerned" and name not in KERNED

@@ -21,12 +21,14 @@ SLANTED = bytes.fromhex("B10001 06 B10001 08 B000 11 B002 12")
 
 @dataclass(frozen=True)
 class Hostile:
-    """A font, a text, and the pixels per em. The lines are those of a job of many; else they all are the text."""
+    """A font, a text, and the pixels per em. The lines are those of a job of many; else they all are the text. A
+    variable font is drawn at an instance, a text of --axis."""
 
     font: bytes
     text: str
     size: int = 16
     lines: tuple = ()
+    axis: str = ""
 
 
 def line_of(glyphs, size=16, **sizes):

@@ -72,13 +72,14 @@ class Bench:
     def __init__(self, program, fit, room):
         self.program, self.fit = program, fit
         self.font, self.text, self.lines = (Path(room) / it for it in ("font", "text", "lines"))
-        self.size = 16
+        self.size, self.instance = 16, []
 
     def write(self, name):
         """Makes a font. Another process does it, so that its memory is not counted as the program's."""
         made = subprocess.run([sys.executable, "-B", str(ROOT / "bench" / "hostile_font"), name, str(self.font.parent)],
                               check=True, capture_output=True, text=True)
-        self.size = int(made.stdout)
+        size, *axis = made.stdout.split()
+        self.size, self.instance = int(size), [f"--axis={it}" for it in axis]
 
     def font_mib(self):
         """The MiB of the font."""
@@ -97,6 +98,7 @@ class Bench:
     def run(self, command, lines, most_seconds=600):
         """Runs a job with the font; a job that needs more processor time is ended."""
         shape = [] if command[0] in ("map", "faces") else ["--fit", self.fit, "--size", str(self.size)]
+        shape += self.instance if command[0] != "faces" else []
         # Lines of one character, which are aligned: as many as a text may have, a row apart.
         one_each = "--align" in command
         words = [self.program, *command, *shape, "--", str(self.without_height() if one_each else self.font)]

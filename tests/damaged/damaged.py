@@ -21,6 +21,7 @@ from asking import (
 from face import mapped
 from faces import damaged_faces
 from kern_tables import damaged_kerning
+from variations import damaged_variations
 
 # So many answers of damaged fonts at the least; fewer would be a script that asks too little.
 LEAST = 300_000
@@ -259,7 +260,7 @@ def main():
         answers = sum(it[0] + len(it[1]) for it in by_font)
         again = list(chain.from_iterable(it[2] for it in by_font))
         ended += [*by_font, *pool.map(same_as_program, pieces(again))]
-    ended += [damaged_faces(), damaged_kerning()]
+    ended += [damaged_faces(), damaged_kerning(), damaged_variations()]
     for it in ended:
         passed += it[0]
         failures += it[1]

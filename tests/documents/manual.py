@@ -4,8 +4,8 @@ import re
 import markdown
 
 # The crates whose texts are messages, and their files of other texts: answers, tags of tables, words for callers.
-CRATES = """tt_advice tt_bitmap_font tt_program_decisions tt_render tt_render_lines tt_render_run tt_render_settings
-tt_render_streams tt_render_texts""".split()
+CRATES = """tt_advice tt_bitmap_font tt_program_decisions tt_program_faces tt_render tt_render_lines tt_render_run
+tt_render_settings tt_render_streams tt_render_texts""".split()
 OTHERS = "advising faces fault layout_texts measure_text refusal space_fault".split()
 # What a line of roff begins with, for a text in one font, and in two fonts by turns.
 ONE, TWO = (".B", ".I"), (".BI", ".BR", ".IB", ".IR", ".RB", ".RI")

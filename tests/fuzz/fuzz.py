@@ -13,6 +13,7 @@ sys.path.insert(0, str(Path(__file__).resolve().parent.parent / "damaged"))
 from asking import FITS, ROOT, question, report, tables_of, why_not_alike, why_wrong
 from collections_of_fonts import Collected
 from kerned_fonts import Kerned
+from varied_fonts import Varied
 
 FONTS = [
     line.split()[-1]
@@ -217,7 +218,7 @@ class Program:
 
 
 def try_other(case, counts, failures):
-    """Tries a case of a collection or of kerning, and keeps its file where one of its answers is wrong."""
+    """Tries a case of a collection, of kerning or of a variable font, and keeps its file where one of its answers is wrong."""
     for kind, answer, why in case.answers():
         counts["wrong" if why else (kind, answer)] += 1
         if why:
@@ -235,7 +236,7 @@ def work(seed, first, step, seconds, only):
     slowest, most = (0, ""), (0, "")
     end, number = time.monotonic() + seconds, first
     while time.monotonic() < end and len(failures) < 20:
-        other = next((it for it in (Collected, Kerned) if it.is_one(seed, number)), None)
+        other = next((it for it in (Collected, Kerned, Varied) if it.is_one(seed, number)), None)
         if other:
             try_other(other(fonts, seed, number), counts, failures)
             if only:
@@ -284,7 +285,7 @@ def main():
             ended = list(pool.map(work, *zip(*((seed, it, workers, seconds, False) for it in range(workers)))))
     counts = sum((it[0] for it in ended), collections.Counter())
     failures = [line for it in ended for line in it[1]]
-    for kind in ("map", *FITS, "map of a face", "faces", "draw of a face", "kerned"):
+    for kind in ("map", *FITS, "map of a face", "faces", "draw of a face", "kerned", "varied"):
         of_kind = [(count, key[1]) for key, count in counts.items() if key[0] == kind]
         print(f"{kind}: " + ", ".join(f"{name} {count}" for count, name in sorted(of_kind, reverse=True)))
     took, told = max(it[2] for it in ended)

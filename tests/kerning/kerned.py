@@ -7,7 +7,7 @@ from fonts import tables_of
 
 # So many records of scripts and features are looked at, numbers of features and of lookups, lookups, and subtables.
 MOST_RECORDS, MOST_LOOKUPS, MOST_SUBTABLES, MOST_OF_KERN = 256, 32, 64, 32
-X_ADVANCE = 4
+X_ADVANCE, X_ADVANCE_DEVICE, VARIATION_INDEX = 4, 0x40, 0x8000
 
 
 class Table:
@@ -141,12 +141,18 @@ def class_of(table, at, glyph):
     return 0 if place is None else table.word(place + 4)
 
 
-def value_at(table, at, forms):
-    """Returns the advance of the first of two values."""
-    return table.signed(at + 2 * bin(forms[0] & 3).count("1")) if forms[0] & X_ADVANCE else 0
+def value_at(table, at, parent, forms, store):
+    """Returns the advance of the first of two values, moved by a store of an instance where there is one. Offsets to
+    devices are counted from the parent."""
+    value = table.signed(at + 2 * bin(forms[0] & 3).count("1")) if forms[0] & X_ADVANCE else 0
+    offset = table.word(at + 2 * bin(forms[0] & 0x3F).count("1")) if forms[0] & X_ADVANCE_DEVICE else 0
+    device = parent + offset
+    if store is None or offset == 0 or table.word(device + 4) != VARIATION_INDEX:
+        return value
+    return max(-32768, min(32767, value + store.delta(table.word(device), table.word(device + 2))))
 
 
-def by_subtable(table, at, left, right):
+def by_subtable(table, at, left, right, store):
     """Returns what a pair subtable gives, or None where it does not apply."""
     index = index_of(table, at + table.word(at + 2), left)
     if index is None:
@@ -157,18 +163,19 @@ def by_subtable(table, at, left, right):
         pairs = at + table.word(at + 10 + 2 * index)
         place = lambda it: pairs + 2 + (2 + size) * it
         number = found(table.word(pairs), lambda it: table.word(place(it)), right)
-        return None if number is None else value_at(table, place(number) + 2, forms)
+        return None if number is None else value_at(table, place(number) + 2, pairs, forms, store)
     if table.word(at) == 2:
         first, second = (class_of(table, at + table.word(at + it), glyph) for it, glyph in ((8, left), (10, right)))
         if first < table.word(at + 12) and second < table.word(at + 14):
-            return value_at(table, at + 16 + size * (first * table.word(at + 14) + second), forms)
+            return value_at(table, at + 16 + size * (first * table.word(at + 14) + second), at, forms, store)
     return None
 
 
 class Kerning:
-    """The kerning of a font, or of tables by their tags."""
+    """The kerning of a font, at an instance where a store is given."""
 
-    def __init__(self, font, directory=0):
+    def __init__(self, font, directory=0, store=None):
+        self.store = store
         places = tables_of(font, directory)
         at, size = places.get(b"GPOS", (0, 0))
         self.gpos = Table(font[at : at + size] if at + size <= len(font) else b"")
@@ -183,7 +190,7 @@ class Kerning:
             return by_kern(self.kern, left, right)
         total = 0
         for places in self.lookups:
-            values = (by_subtable(self.gpos, it, left, right) for it in places)
+            values = (by_subtable(self.gpos, it, left, right, self.store) for it in places)
             total += next((it for it in values if it is not None), 0)
         return total
 

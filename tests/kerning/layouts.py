@@ -27,10 +27,10 @@ class Row(NamedTuple):
     layout: Layout
 
 
-def fonts():
-    """Returns the fonts of rows.txt by their names."""
+def fonts(file=ROWS):
+    """Returns the fonts of rows.txt, or of another file, by their names."""
     made = {}
-    for line in labels.lines(ROWS):
+    for line in labels.lines(file):
         if line.startswith("font "):
             name, words = line.removeprefix("font ").split("|")
             base, *others = words.split(" ")

@@ -60,6 +60,11 @@ def pictures_of(data):
     return " ".join(words)
 
 
+# What is said of a variable font has more words than when the rows were made.
+NOTE = "its default instance is drawn"
+NOTE_NOW = f"{NOTE} (--instance, --axis; faces lists them)"
+
+
 def font_words(data, others):
     """Returns the words by which a font is written: by an earlier one's, where few bytes are changed."""
     for name, other in others.items():
@@ -87,7 +92,7 @@ def line_of(row):
     stdin, stdout = bytes.fromhex(row["stdin"]), bytes.fromhex(row["stdout"])
     errors = ["complains"]
     if row["stderr"] is not None:
-        errors = [it.removeprefix("tt_render: ") for it in row["stderr"].splitlines()]
+        errors = [it.removeprefix("tt_render: ").replace(NOTE, NOTE_NOW) for it in row["stderr"].splitlines()]
     assert words_in(words) == [it.encode() for it in row["argv"][1:]]
     assert pictures_in(pictures_of(stdout)) == stdout and not stdin or bytes_in(word_of(stdin)) == stdin
     fields = [row["title"], file, words, word_of(stdin) if stdin else "", str(row["status"]), pictures_of(stdout)]

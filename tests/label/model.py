@@ -207,11 +207,14 @@ def shown(word):
     return "".join("?" if any(one <= ord(it) <= last for one, last in ranges(STEERING)) else it for it in word)
 
 
+VARIABLE = "is a variable font; its default instance is drawn (--instance, --axis; faces lists them)"
+
+
 def told_of_font(font, face, path):
     """Returns what is told of a font after the first picture; the face is None where none was given."""
     told = []
     if b"fvar" in tags_of(font, face or 0):
-        told.append(f"{shown(path)}: is a variable font; its default instance is drawn")
+        told.append(f"{shown(path)}: {VARIABLE}")
     if font[:4] == b"ttcf" and word_at(font, 8) > 1 and face is None:
         told.append(f"{shown(path)}: is a collection of {word_at(font, 8)} faces; face 0 is drawn (--face N)")
     return told

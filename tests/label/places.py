@@ -157,7 +157,7 @@ def order(asked):
     common.verdict("no font is one write", [] if (status, packets) == (3, wanted) else [f"{status} {packets}"])
     status, packets = writes(asked, [*words, "F.ttf", "\tZ"], asked.folder(fonts["variable"]))
     told = ["U+0009 has no glyph", "U+005A has no glyph", model.TAB]
-    told.append("F.ttf: is a variable font; its default instance is drawn")
+    told.append(f"F.ttf: {model.VARIABLE}")
     good = status == 0 and packets[-1:] == [lines_of(told)] and not any(b"tt_render" in it for it in packets[:-1])
     common.verdict("what is told is one write behind the picture", [] if good else [f"{status} {packets}"])
     status, packets = writes(asked, [*words, "--lines", "F.ttf"], asked.folder(fonts["T"]), b"A\nZ\nB\n\xff\nA\n")

@@ -235,6 +235,8 @@ def tables_by_name(sources):
     tags, of_crates, found = {}, {}, {}
     for path, text in sources.items():
         tags[path] = set(re.findall(r"\bconst \w+: \[u8; 4\] = \*b\"(.{4})\"", text))
+        # A fault by another crate's function for the table.
+        tags[path] |= {"glyf"} if "glyf_fault(" in text else set()
         of_crates.setdefault(path.split("/")[1], set()).update(tags[path])
     for path, text in sources.items():
         crate = path.split("/")[1]

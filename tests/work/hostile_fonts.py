@@ -34,6 +34,13 @@ DRAWN = {
     "records_none": (1, 1, "10 NoCmap"),
     "records_last": (0, 0, ""),
     "selectors": (0, 0, ""),
+    "deltas_half": (0, 0, ""),
+    "deltas_small": LARGE,
+    "tuples_wide": (0, 0, ""),
+    "tuples_deep": (0, 0, ""),
+    "cvar": (0, 0, ""),
+    "avar": (0, 0, ""),
+    "coordinates_asked": STOPPED,
 }
 # The same when it is measured, and when its picture is to grow.
 MEASURED = {
@@ -70,8 +77,10 @@ def hostile(asked):
         made = subprocess.run([sys.executable, "-B", BENCH / "hostile_font", name, asked.font.parent], check=True,
                               capture_output=True, text=True)
         text = asked.font.with_name("text").read_text(encoding="utf-8")
+        size, *axis = made.stdout.split()
+        job_words = [*job.split(), "--fit", "best", "--size", size, *(f"--axis={it}" for it in axis)]
         before = resource.getrusage(resource.RUSAGE_CHILDREN)
-        status, _, lines = asked.run(*job.split(), "--fit", "best", "--size", int(made.stdout), text=text)
+        status, _, lines = asked.run(*job_words, text=text)
         after = resource.getrusage(resource.RUSAGE_CHILDREN)
         seconds = after.ru_utime + after.ru_stime - before.ru_utime - before.ru_stime
         slowest = max(slowest, (seconds, f"{job} {name}"))
