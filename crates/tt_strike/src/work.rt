@@ -135,14 +135,16 @@ fn asked_left(
     requires cache { IsCacheFor fitter.now cache.now }
     ensures { IfOk result (λ left. left ≡ counts_left all_counts (points_of_all fitter.now numbers.now) (deltas_of_all fitter.now numbers.now)) }
 {
-    let Some(deltas) = DELTA_LIMIT.checked_sub(fitter.control_deltas()) else {
-        return Ok(None);
-    };
-    let left = CountsLeft {
-        points: POINT_WORK_LIMIT,
-        deltas,
-    };
-    left.without_glyphs(fitter, numbers, cache)
+    match DELTA_LIMIT.checked_sub(fitter.control_deltas()) {
+        Some(deltas) => {
+            let left = CountsLeft {
+                points: POINT_WORK_LIMIT,
+                deltas,
+            };
+            left.without_glyphs(fitter, numbers, cache)
+        }
+        None => Ok(None),
+    }
 }
 
 /// Charges the points and the deltas of a line's distinct glyphs to its work, which is bounded, before a glyph is made.
