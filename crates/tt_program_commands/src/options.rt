@@ -161,7 +161,7 @@ pub(crate) const HEIGHT: Argument = Argument {
     takes: Takes::OneOf(HEIGHTS),
     values: &["HOW"],
     defaults: &[EXACT],
-    help: "exact, or rounded so that box lines join",
+    help: "exact, or rounded to join box lines",
     ..PLAIN
 };
 
