@@ -109,12 +109,11 @@ impl<'a> Request<'a> {
                 ..
             } => *place = instance,
             Request::Faces { .. } => {}
-            Request::Text { setting, .. }
-            | Request::Lines { setting, .. }
-            | Request::Layout { setting, .. } => setting.instance = instance,
-            Request::Label { options, .. } | Request::Labels { options, .. } => {
-                options.instance = instance;
-            }
+            Request::Text { setting, .. } => setting.instance = instance,
+            Request::Lines { setting, .. } => setting.instance = instance,
+            Request::Layout { setting, .. } => setting.instance = instance,
+            Request::Label { options, .. } => options.instance = instance,
+            Request::Labels { options, .. } => options.instance = instance,
             Request::Bdf(asked) => asked.instance = instance,
         }
         request
