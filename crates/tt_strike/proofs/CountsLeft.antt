@@ -103,8 +103,10 @@ pub counts_pass : (how : Fit) (points deltas : ℕ) (left : CountsLeft) → is_b
 unfolding counts_tested
 counts_pass how points deltas left bounded is =
     let rest = rest_of all_counts left points deltas is in
-    rw (in_limit how point_work_limit points bounded rest.few_points,
-      in_limit how delta_limit deltas bounded rest.few_deltas) refl
+    rw (
+      in_limit how point_work_limit points bounded rest.few_points,
+      in_limit how delta_limit deltas bounded rest.few_deltas,
+    ) refl
 
 stopped_by : (how : Fit) (points deltas : ℕ) (a b : Bool) → is_bounded how ≡ true → nat_le points point_work_limit ≡ a
     → nat_le deltas delta_limit ≡ b
