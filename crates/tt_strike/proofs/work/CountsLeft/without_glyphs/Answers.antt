@@ -17,7 +17,7 @@ loop-glyph-preserved c =
     let rest = drop (i + 1) gs in
     let after = left_after c.loop-glyph.left c.in-Some.fewer (points_asked s.tables s.levels (get_or gs i 0))
     (deltas_asked s.instance s.tables s.levels (get_or gs i 0)) (points_of_all s rest) (glyph_deltas s rest)
-    (rw c.in-Some.is at c.in_ok-without_glyph.ensures) in
+    (rw c.in-Some.is at c.in_ok-fewer.ensures) in
     after ∙ rw (← points, ← deltas) c.loop-glyph.invariant
 
 pub returns-in-None : goal.returns-in-None
@@ -31,5 +31,5 @@ returns-in-None c =
     let rest = drop (i + 1) gs in
     let after = none_after c.loop-glyph.left (points_asked s.tables s.levels (get_or gs i 0))
     (deltas_asked s.instance s.tables s.levels (get_or gs i 0)) (points_of_all s rest) (glyph_deltas s rest)
-    (rw c.in-None.is at c.in_ok-without_glyph.ensures) in
+    (rw c.in-None.is at c.in_ok-fewer.ensures) in
     after ∙ rw (← points, ← deltas) c.loop-glyph.invariant
