@@ -13,8 +13,8 @@ ROOT = TESTS.parent
 # Scripts by their seconds on a quiet core: the longest begins first, so that none is left over at the end. A script
 # that is not in the list comes behind these.
 LONGEST_FIRST = """fuzz debian characters lines c composed work launcher package damaged faces glyph_sets label
-  printers variations measure dist memory devices dropouts kerning lines_beside rows heights fallback hinted readme prove pixels
-  command_line machine outlines glyphs real_lines best wrong_bodies""".split()
+  printers variations measure dist memory devices dropouts kerning lines_beside rows heights fallback hinted readme
+  prove pixels command_line machine outlines glyphs real_lines best wrong_bodies""".split()
 
 # Scripts that draw fonts of Debian throughout: each is skipped where one of those that FONTS names is not here.
 OF_FONTS = "best c composed dropouts fallback fuzz glyphs hinted lines_beside measure outlines".split()

@@ -147,9 +147,10 @@ def regions(count, axes):
 
 def store(rows, count=NUMBERS, axes=AXES):
     """A store of so many rows of numbers of regions."""
-    listed = regions(count, axes)
+    some = min(count, 4096 // axes)
+    listed = regions(some, axes)
     at = 12 + len(listed)
-    data = small.words(rows, 0, count, *range(count)) + bytes([3]) * (rows * count)
+    data = small.words(rows, 0, count, *(it % some for it in range(count))) + bytes([3]) * (rows * count)
     return small.words(1) + longs(12) + small.words(1) + longs(at) + listed + data
 
 

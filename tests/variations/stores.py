@@ -3,8 +3,9 @@ this project's rules alone. Nothing of these tables is refused: what is not ther
 from axes import ONE, optional, share_of, signed
 from face import unsigned
 
-# A row has so many numbers at the most.
-MOST_NUMBERS = 512
+# A row has so many numbers at the most, and a store so many regions, with so many axes together.
+MOST_NUMBERS = MOST_REGIONS = 512
+MOST_SIDES = 4096
 
 
 def whole(delta):
@@ -54,11 +55,13 @@ class Store:
         return self.blocks > 0 and self.at + 8 + 4 * self.blocks <= len(self.data)
 
     def has_regions(self):
-        """Tells whether the regions are there."""
+        """Tells whether the regions are there. Too many are not."""
         self.list = self.at + unsigned(self.data, self.at + 2, 4)
         if self.list + 4 > len(self.data) or self.word(self.list) != self.axes:
             return False
         self.regions = self.word(self.list + 2)
+        if self.regions > MOST_REGIONS or self.axes * self.regions > MOST_SIDES:
+            return False
         return self.list + 4 + 6 * self.axes * self.regions <= len(self.data)
 
     def region(self, number):

@@ -49,7 +49,7 @@ impl<'a> FontFile<'a> {
         }
     }
 
-    /// The setting by which texts are drawn with the file's glyphs.
+    /// The setting that draws texts with the file's glyphs.
     pub(crate) fn setting(&self) -> Setting<'a>
         ensures { result ≡ setting_of self.now }
     {

@@ -122,9 +122,9 @@ fn ready_file(alloc: Global, file: &[u8], asked: &FontFile) -> Result<ReadyFile,
     }
 }
 
-/// Writes a font at a size as a file of bitmaps, in BDF 2.1: the characters that are asked for and that the font has a
-/// glyph for, in order of code point. All glyphs are made before a byte is written. Then the report is printed on
-/// `error`, and behind it the lines about the font. A failure of `error` does not change the answer.
+/// Writes a font at a size as a file of bitmaps, in BDF 2.1: the wanted characters that the font has a glyph for, in
+/// order of code point. All glyphs are made before a byte is written. Then the report is printed on `error`, and behind
+/// it the lines about the font. A failure of `error` does not change the answer.
 ///
 /// Errors, the first of these, with no line: Job (SizeRange, and TextLong, of a text of more than 4,096 characters),
 /// before the font is read; FontRead, FontLarge; Font, of the tables needed for every text and of the instance; Job

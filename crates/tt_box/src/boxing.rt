@@ -127,7 +127,7 @@ fn next_size(
     })
 }
 
-/// The picture of a text that fills a box, at the greatest size in pixels per em, of at most `source.ppem`, at which the
+/// The picture of a text that fills a box, at the greatest size in pixels per em, of at most `source.ppem`, where the
 /// text fits: no word is broken, no row is wider or higher than the room between the margins, nor all rows together, and
 /// no ink lies outside of the box. None where the text fits at no size down to 5.
 ///

@@ -49,7 +49,7 @@ empty_bitmap e status number = record {
 abbrev pub bitmap_with : CBitmap → Fault → CBitmap
 bitmap_with b f = record b { number = why_number f.why; table = f.table; offset = f.offset }
 
--- an entry names the defect for which its glyph is unfitted, if there is one
+-- an entry names the defect that makes its glyph unfitted, if there is one
 abbrev pub bitmap_fitted : CBitmap → Option Fault → CBitmap
 bitmap_fitted b None = b
 bitmap_fitted b (Some f) = bitmap_with b f

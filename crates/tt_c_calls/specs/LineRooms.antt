@@ -1,4 +1,4 @@
--- No part of the standard: the room that the rows of lines need, asked for by a call of C (profile).
+-- No part of the standard: the room that the rows of lines need, by a call of C (profile).
 use Rattle.std.specs.Prelude.{◌≡◌, ◌≢◌, refl, ℕ, ◌^◌, ◌<◌, ◌≤◌, if◌then◌else◌, min, List, [], ◌∷◌, length, replicate, take, get_or, Result, Ok, Err, ◌⊎◌}
 use Rattle.std.specs.List.{sum_by}
 use Rattle.tt_core.specs.declared.fault.JobFault.TheVariants as fault
@@ -20,7 +20,7 @@ use Rattle.tt_c_calls.specs.Variations.{no_axis}
 abbrev pub line_at : List ℕ → List ℕ → ℕ → List ℕ
 line_at texts ends i = line_between texts (start_of ends i) (get_or ends i 0)
 
--- the bytes of a line's rows: none of a blank line, else those of the picture that is asked for
+-- the bytes of a line's rows: none of a blank line, else those of the wanted picture
 abbrev pub line_room : CJob → List ℕ → List ℕ → Result ℕ Refusal
 line_room j font line =
     if is_blank j line then Ok 0 else (picture_wanted j line font >>= λ image. Ok (length image.rows))
@@ -91,7 +91,7 @@ pub record DrawsInto (j : CJob) (font texts ends : List ℕ) (room : ℕ) (a : C
   pub after : length rows ≡ room
   pub memory : a.status ≢ 5
 
--- a room of the bytes that were asked for is enough for the lines, unless memory is refused
+-- a room of the stated bytes is enough for the lines, unless memory is refused
 abbrev pub AskedRoomIsEnough : Type 0
 AskedRoomIsEnough = (j : CJob) (font texts ends : List ℕ) (asked a : CAnswer) (room : ℕ) → room < 2 ^ 63
     → TellsRoom j font texts ends asked → asked.status ≡ 0 → DrawsInto j font texts ends room a → asked.bytes ≤ room

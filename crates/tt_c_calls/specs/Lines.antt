@@ -74,8 +74,8 @@ first_taken j font texts ends count = lines_taken j font (lines_by texts 0 (take
 abbrev pub start_of : List ℕ → ℕ → ℕ
 start_of ends i = get_or (0 ∷ ends) i 0
 
--- the picture of a line for C, its rows, and what the line takes of the budget: of a blank line, or of the picture that is
--- asked for
+-- the picture of a line for C, its rows, and what the line takes of the budget: of a blank line, or of the wanted
+-- picture
 abbrev pub IsShown : CJob → List ℕ → List ℕ → CPicture → List ℕ → ℕ → Type 0
 IsShown j font line told rows cost =
     ((is_blank j line ≡ true) × (told ≡ blank_picture) × (rows ≡ []) × (cost ≡ 0))
@@ -161,7 +161,7 @@ abbrev pub IsLine : List ℕ → List ℕ → ℕ → Type 0
 IsLine texts ends i = (start_of ends i ≤ get_or ends i 0) × (get_or ends i 0 ≤ length texts)
 
 -- the reason why a call drew no more than the first lines: the font or the job is refused, and no line is drawn; memory
--- was refused; the next line stopped it, for which the budget serves, or its ends are refused; or there is a next line,
+-- was refused; the next line, which the budget covers, stopped it, or its ends are refused; or there is a next line,
 -- and the lines before it took more than the budget
 abbrev pub IsStopped : CJob → List ℕ → List ℕ → List ℕ → ℕ → ℕ → CAnswer → Type 0
 IsStopped j font texts ends room used a =

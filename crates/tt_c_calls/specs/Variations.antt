@@ -1,4 +1,4 @@
--- No part of the standard: what a job of C asks of a variable font (profile).
+-- No part of the standard: the instance of a variable font in a job of C (profile).
 use Rattle.std.specs.Prelude.{◌≡◌, refl, ℕ, ◌-◌, ◌==◌, ◌&&◌, min, nat_lt, if◌then◌else◌, List, [], ◌∷◌, ◌++◌, codes, map, replicate, take, pos, negsuc, Option, None, Some, Result, Ok, Err}
 use Rattle.std.specs.Int.{to_be_bytes, w32}
 use Rattle.tt_axes.specs.declared.values.AxisValue.{AxisValue}

@@ -120,7 +120,7 @@ fn post_number(dir: &Dir, at: usize) -> Option<i16>
     i16_at(post, at)
 }
 
-/// The underline of the face that a reading asks for.
+/// The underline of the face that a reading names.
 fn underline_by(font: &[u8], reading: Reading, ppem: u32, em: u16) -> CUnderline
     requires file { length font.now ≤ font_limit }
     requires size { ppem ≤ size_limit }

@@ -1,6 +1,6 @@
 -- Laws of the definitions. An outline has no defect, and a fault names one. A fit that falls back gives the outline of
 -- its programs alone, or the one without programs. The last laws give the dropout rules.
-use Rattle.std.specs.Prelude.{◌≡◌, ◌≢◌, ℕ, ◌≤◌, ◌==◌, true, false, List, [], length, All, Option, Some, None, Result, Ok, Err, refl}
+use Rattle.std.specs.Prelude.{◌≡◌, ◌≢◌, ℕ, ◌≤◌, ◌==◌, Bool, true, false, ℤ, List, [], ◌∷◌, ◌++◌, length, All, Option, Some, None, Result, Ok, Err, refl}
 use Rattle.tt_core.specs.Directory.{HasNo}
 use Rattle.tt_core.specs.Faults.{Fault}
 use Rattle.tt_core.specs.Limits.{work_limit}
@@ -10,26 +10,36 @@ use Rattle.tt_core.specs.declared.halves.Halves.TheVariants as halves
 use Rattle.tt_core.specs.declared.scaling.Scale.{Scale}
 use Rattle.tt_fit_hinting.specs.machine.Parts.{Parts}
 use Rattle.tt_fit_hinting.specs.machine.Work.{enough, spent}
-use Rattle.tt_glyf.specs.Loca.{Glyf}
+use Rattle.tt_deltas.specs.Glyphs.{VariedPoints}
+use Rattle.tt_deltas.specs.Units.{moved_sixty_fourths, moved_units}
+use Rattle.tt_deltas.specs.declared.varied.Varied.{Varied}
+use Rattle.tt_glyf.specs.Loca.{Glyf, glyph_offset}
 use Rattle.tt_glyf.specs.Raw.{Raw, SimpleGlyph, simple}
+use Rattle.tt_glyf.specs.declared.raw.RawPoint.{RawPoint}
 use Rattle.tt_metrics.specs.Metrics.{Metrics}
 use Rattle.tt_state.specs.declared.graphics_state.ScanControl.{ScanControl}
 use Rattle.tt_state.specs.declared.point.Point.{Point}
 use Rattle.tt_fit.specs.declared.programs.Fit.{Fit}
 use Rattle.tt_fit.specs.declared.programs.Fit.TheVariants as fit
+use Rattle.tt_fit.specs.Default.{simple_program}
 use Rattle.tt_fit.specs.Defects.{IsOutlineDefect}
 use Rattle.tt_fit.specs.Dropouts.{default_rules, none_ran, scan_rules, scan_left, dropouts_of}
 use Rattle.tt_fit.specs.Fallback.{never, where_refused, is_program_fault}
 use Rattle.tt_fit.specs.ControlValues.{places_of}
-use Rattle.tt_fit.specs.Fitting.{Begun, Fitter, with_hinting, size_of, begun_glyph, outline_at, glyph_work, unfitted_fault, fitted_outline, after_glyph}
+use Rattle.tt_fit.specs.Fitting.{Begun, Fitter, with_hinting, size_of, start, default_units, default_phantom, ends_of, fine_phantom, begun_glyph, outline_at, glyph_work, unfitted_fault, fitted_outline, after_glyph}
 use Rattle.tt_fit_hinting.specs.Hinting.{off, ready, run_of}
-use Rattle.tt_fit_hinting.specs.GlyphZone.{glyph_zone}
+use Rattle.tt_fit_hinting.specs.GlyphZone.{untouched, phantom_zone, glyph_zone}
 use Rattle.tt_fit_outline.specs.Outline.{Outline, PhantomPoints}
 use Rattle.tt_face.specs.Faces.{FaceInstance}
 use Rattle.tt_face.specs.Programs.{ProgramTables}
 use Rattle.tt_fit.specs.Preparation.{font_program, control_value_program, with_definitions, begun_at, left_at, work_at, fitter_with, fitter_of}
 use Rattle.tt_fit.specs.Rules.{falls_back}
+use Rattle.tt_fit_outline.specs.Scaling.{scaled_outline}
+use Rattle.tt_fit_outline.specs.Units.{with_units}
 use Rattle.tt_fit_outline.specs.declared.rules.Scaling.TheVariants as scaling
+use Rattle.tt_fit_variation.specs.Advance.{deltas_of}
+use Rattle.tt_fit_variation.specs.Ends.{moved_ends}
+use Rattle.tt_fit_variation.specs.Fine.{fine_scaled}
 use Rattle.tt_fit.specs.Work.{IsEnough}
 
 -- a glyph with an outline has no defect, nor do its components
@@ -173,15 +183,57 @@ BestIsBounded = (m : Metrics) (tables : Glyf) (programs : ProgramTables) (instan
 abbrev pub WorkFalls : Type 0
 WorkFalls = (s : Fitter) (g left : ℕ) → s.work ≡ Some left → Fewer left (after_glyph s g).work
 
--- Originals. By the font's default, those that a simple glyph's program measures in font units are its places there,
--- scaled. At an instance the places are whole units, and points are scaled from parts of a unit
+-- Originals. A point that a program measures in font units is its place there, scaled
 abbrev pub IsScaledBy : Scale → Point → Type 0
 IsScaledBy scale p = (p.org_x ≡ scaled_by scale p.units_x) × (p.org_y ≡ scaled_by scale p.units_y)
 
+-- the points of a simple glyph by the font's default, scaled, with its phantom points
+abbrev pub scaled_simple : Fitter → ℕ → SimpleGlyph → Result Outline Fault
+scaled_simple s g d = start s (default_phantom s d.x_min g) g
+    >>= scaled_outline (size_of s) (glyph_offset s.tables g) d.points d.ends
+
+-- by the font's default, so are all points that a simple glyph's program measures
 abbrev pub OriginalsAreScaled : Type 0
-OriginalsAreScaled = (s : Fitter) (g : ℕ) (d : SimpleGlyph) (b : Begun) (grid : PhantomPoints)
-    → s.scaling ≡ scaling.Rounded → s.instance ≡ None → (length d.code == 0) ≡ false → begun_glyph s g (simple d) ≡ Ok b
-    → All (IsScaledBy (size_of s).scale) (glyph_zone b.program.units b.outline grid)
+OriginalsAreScaled = (s : Fitter) (g : ℕ) (d : SimpleGlyph) (o : Outline) (grid : PhantomPoints)
+    → s.scaling ≡ scaling.Rounded → scaled_simple s g d ≡ Ok o
+    → All (IsScaledBy (size_of s).scale) (glyph_zone (simple_program s g d).units o grid)
+
+-- without an instance a simple glyph is begun for this program; unless it is empty, with these points
+pub record BeginsScaled (s : Fitter) (g : ℕ) (d : SimpleGlyph) (b : Begun) : Type 0 where
+  pub program : b.program ≡ simple_program s g d
+  pub outline : (length d.code == 0) ≡ false → scaled_simple s g d ≡ Ok b.outline
+
+abbrev pub DefaultsBeginScaled : Type 0
+DefaultsBeginScaled = (s : Fitter) (g : ℕ) (d : SimpleGlyph) (b : Begun)
+    → s.instance ≡ None → begun_glyph s g (simple d) ≡ Ok b → BeginsScaled s g d b
+
+-- At an instance the places in font units are whole units. The points themselves are scaled from 64ths of a unit
+abbrev pub moved_place : Scale → Varied → Varied → ℤ × ℤ
+moved_place scale x y = (fine_scaled scale (moved_sixty_fourths x), fine_scaled scale (moved_sixty_fourths y))
+
+abbrev pub moved_original : Scale → Bool → Varied → Varied → Point
+moved_original scale on x y =
+    with_units (moved_units x, moved_units y) (untouched (moved_place scale x y) (moved_place scale x y) on)
+
+abbrev pub moved_originals : Scale → List RawPoint → List Varied → List Varied → List Point
+moved_originals scale [] xs ys = []
+moved_originals scale (p ∷ ps) [] ys = []
+moved_originals scale (p ∷ ps) (x ∷ xs) [] = []
+moved_originals scale (p ∷ ps) (x ∷ xs) (y ∷ ys) = moved_original scale p.on x y ∷ moved_originals scale ps xs ys
+
+-- the points of a simple glyph's zone are these, by the glyph's deltas, and so are the phantom points, unless its program
+-- is empty
+pub record BeginsMoved (i : FaceInstance) (s : Fitter) (g : ℕ) (d : SimpleGlyph) (b : Begun) : Type 0 where
+  pub deltas : VariedPoints
+  pub found : deltas_of i.gvar i.coordinates g (simple d) ≡ Ok deltas
+  pub zone : (grid : PhantomPoints) → glyph_zone b.program.units b.outline grid
+      ≡ moved_originals (size_of s).scale d.points deltas.xs deltas.ys
+      ++ phantom_zone (moved_ends (default_units s d.x_min g) (ends_of s (length d.points) deltas)) b.outline.phantom grid
+  pub phantom : (length d.code == 0) ≡ false → b.outline.phantom ≡ fine_phantom s g d deltas
+
+abbrev pub OriginalsAreMoved : Type 0
+OriginalsAreMoved = (i : FaceInstance) (s : Fitter) (g : ℕ) (d : SimpleGlyph) (b : Begun)
+    → s.scaling ≡ scaling.Rounded → s.instance ≡ Some i → begun_glyph s g (simple d) ≡ Ok b → BeginsMoved i s g d b
 
 -- With every fit but Best no program measures in font units, and halves round upwards
 abbrev pub OthersMeasureInPixels : Type 0

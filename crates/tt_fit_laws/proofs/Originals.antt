@@ -1,12 +1,15 @@
 -- The unit of a simple glyph program's originals.
-use Rattle.std.proofs.Common.{◌≡◌, ◌≢◌, ◌∙◌, sym, ap, subst, ℕ, ◌*◌, ◌==◌, ℤ, pos, Bool, true, false, if◌then◌else◌, List, [], ◌∷◌, length, map, All, Option, Some, None, Result, Ok, refl, arith}
+use Rattle.std.proofs.Common.{◌≡◌, ◌≢◌, ◌∙◌, sym, ap, subst, ℕ, ◌*◌, ◌==◌, ℤ, pos, Bool, true, false, if◌then◌else◌, List, [], ◌∷◌, ◌++◌, length, map, All, Option, Some, None, Result, Ok, refl, arith}
 use Rattle.std.specs.Prelude.{◌&&◌}
 use Rattle.std.proofs.lemmas.List.Elements.{All-nil, All-cons, All-append}
 use Rattle.tt_core.specs.Chains.{came-through, passed-else}
 use Rattle.tt_core.specs.Faults.{Fault}
 use Rattle.tt_core.specs.Outcomes.{◌>>=◌, each}
 use Rattle.tt_deltas.specs.Glyphs.{VariedPoints}
+use Rattle.tt_deltas.specs.Units.{moved_sixty_fourths, moved_units}
+use Rattle.tt_deltas.specs.declared.varied.Varied.{Varied}
 use Rattle.tt_core.specs.Scales.{factor, rounded_scale, scaled_by}
+use Rattle.tt_core.specs.declared.scaling.Scale.{Scale}
 use Rattle.tt_core.specs.declared.halves.Halves.TheVariants as halves
 use Rattle.tt_glyf.specs.Loca.{Glyf, glyph_offset}
 use Rattle.tt_glyf.specs.Raw.{Raw, SimpleGlyph, empty, simple, composite}
@@ -17,9 +20,9 @@ use Rattle.tt_fit.specs.declared.programs.Fit.{Fit}
 use Rattle.tt_fit.specs.declared.programs.Fit.TheVariants as fit
 use Rattle.tt_fit_outline.specs.declared.rules.Scaling.{Scaling}
 use Rattle.tt_fit_outline.specs.declared.rules.Scaling.TheVariants as scaling
-use Rattle.tt_fit.specs.Fitting.{Begun, Fitter, size_of, start, simple_start, empty_begun, simple_begun, composite_begun, default_phantom, default_units, begun_by_default, whole_start, fine_start, begun_varied, begun_by, begun_glyph}
+use Rattle.tt_fit.specs.Fitting.{Begun, Fitter, FineStart, size_of, start, simple_start, empty_begun, simple_begun, composite_begun, default_phantom, default_units, begun_by_default, ends_of, units_at, fine_phantom, whole_start, fine_start, simple_moved, begun_varied, begun_at_instance, begun_by, begun_glyph}
 use Rattle.tt_fit_hinting.specs.GlyphZone.{untouched, outline_point, phantom_zone, glyph_zone}
-use Rattle.tt_fit.specs.Laws.{IsScaledBy, OriginalsAreScaled, OthersMeasureInPixels}
+use Rattle.tt_fit.specs.Laws.{IsScaledBy, OriginalsAreScaled, DefaultsBeginScaled, moved_original, moved_originals, OriginalsAreMoved, OthersMeasureInPixels}
 use Rattle.tt_fit_outline.specs.Outline.{Outline, PhantomPoints}
 use Rattle.tt_face.specs.Faces.{FaceInstance}
 use Rattle.tt_face.specs.Programs.{ProgramTables}
@@ -27,7 +30,9 @@ use Rattle.tt_fit.specs.Preparation.{prepared, fitter_of}
 use Rattle.tt_fit.specs.Rules.{rules_of}
 use Rattle.tt_fit_outline.specs.Scaling.{settled, is_coordinate, are_positions, scaled_position, scaled_point, phantom_units, phantom_points, blank, scaled_outline, outline_in_place}
 use Rattle.tt_fit_variation.specs.Advance.{deltas_of}
-use Rattle.tt_fit_variation.specs.Moved.{instance_places, instance_points, instance_units}
+use Rattle.tt_fit_variation.specs.Ends.{EndDeltas, are_ends, moved_ends, ends_in_units}
+use Rattle.tt_fit_variation.specs.Fine.{fine_scaled}
+use Rattle.tt_fit_variation.specs.Moved.{InstancePoint, is_unit, moved_coordinate, point_of, instance_point, instance_places, instance_points, instance_units}
 use Rattle.tt_fit_variation.specs.Records.{moved_records}
 use Rattle.tt_fit_outline.specs.Size.{FontSize, size_by}
 use Rattle.tt_fit_outline.specs.Units.{in_units, units_by, with_units}
@@ -133,21 +138,138 @@ not-bare s phantom g code o some was =
     first.first ∙ ap Ok same
 
 pub originals-are-scaled : OriginalsAreScaled
-originals-are-scaled s g d b grid rounded none some was =
+originals-are-scaled s g d o grid rounded was =
     let z = size_of s in
     let em = units_per_em_of s.metrics in
     let at = glyph_offset s.tables g in
     let phantom = default_phantom s d.x_min g in
+    let begun = came-through (start s phantom g) _ o was in
+    let from = phantom-begun at phantom begun.value begun.first in
+    let are = outline-placed z at d.points d.ends begun.value o begun.rest in
+    zone-scaled s.scaling s.ppem em z at s.metrics d.x_min g d.points o grid rounded
+    (ap (λ how. (size_by how s.ppem em).scale) rounded)
+    (subst (λ p. ArePlaced z d.points p o) (sym from) are)
+
+in-a-chain : {X Y : Type 0} (x : Result X Fault) (f : X → Result Y Fault) (v : X) (y : Y) → x ≡ Ok v → f v ≡ Ok y
+    → (x >>= f) ≡ Ok y
+in-a-chain x f v y first rest = rw first rest
+
+pub defaults-begin-scaled : DefaultsBeginScaled
+defaults-begin-scaled s g d b none was =
+    let phantom = default_phantom s d.x_min g in
+    let to_scale = scaled_outline (size_of s) (glyph_offset s.tables g) d.points d.ends in
     let by_default = begun-none s g (simple d) b none was in
     let begun = came-through (simple_start s phantom g d.code) _ b by_default in
-    let scaled = came-through (scaled_outline z at d.points d.ends begun.value) _ b begun.rest in
+    let scaled = came-through (to_scale begun.value) _ b begun.rest in
     let same : simple_begun s g d d.points (default_units s d.x_min g) scaled.value ≡ b = let done = scaled.rest in cc in
-    let from = phantom-begun at phantom begun.value (not-bare s phantom g d.code begun.value some begun.first) in
-    let are = outline-placed z at d.points d.ends begun.value scaled.value scaled.first in
     rw (← same)
-    (zone-scaled s.scaling s.ppem em z at s.metrics d.x_min g d.points scaled.value grid rounded
-    (ap (λ how. (size_by how s.ppem em).scale) rounded)
-    (subst (λ was. ArePlaced z d.points was scaled.value) (sym from) are))
+    (record {
+      program = refl;
+      outline = λ some. in-a-chain (start s phantom g) to_scale begun.value scaled.value
+      (not-bare s phantom g d.code begun.value some begun.first) scaled.first;
+    })
+
+-- a simple glyph at an instance
+begun-some : (i : FaceInstance) (s : Fitter) (g : ℕ) (d : Raw) (b : Begun) → s.instance ≡ Some i
+    → begun_glyph s g d ≡ Ok b → begun_at_instance i s g d ≡ Ok b
+unfolding begun_glyph
+begun-some i s g d b some was = subst (λ instance. begun_by instance s g d ≡ Ok b) some was
+
+coordinate-moved : (z : FontSize) (at : ℕ) (v : Varied) (a : ℤ × ℤ) → moved_coordinate z at v ≡ Ok a
+    → (moved_units v, fine_scaled z.scale (moved_sixty_fourths v)) ≡ a
+unfolding moved_coordinate
+coordinate-moved z at v a was =
+    let test = passed-else (is_unit (moved_units v) && is_coordinate (fine_scaled z.scale (moved_sixty_fourths v))) _ _ a
+    was in test.1
+
+point-of-moved : (scale : Scale) (on : Bool) (x y : Varied) (a b : ℤ × ℤ) (q : InstancePoint)
+    → (moved_units x, fine_scaled scale (moved_sixty_fourths x)) ≡ a
+    → (moved_units y, fine_scaled scale (moved_sixty_fourths y)) ≡ b → point_of on a b ≡ q
+    → with_units (q.unit.x, q.unit.y) (outline_point q.place) ≡ moved_original scale on x y
+point-of-moved scale on x y a b q of_x of_y same = rw (← same, ← of_x, ← of_y) refl
+
+point-moved : (z : FontSize) (at : ℕ) (on : Bool) (x y : Varied) (q : InstancePoint)
+    → instance_point z at on x y ≡ Ok q
+    → with_units (q.unit.x, q.unit.y) (outline_point q.place) ≡ moved_original z.scale on x y
+unfolding instance_point
+point-moved z at on x y q was =
+    let a = came-through (moved_coordinate z at x) _ q was in
+    let b = came-through (moved_coordinate z at y) _ q a.rest in
+    let same : point_of on a.value b.value ≡ q = let done = b.rest in cc in
+    point-of-moved z.scale on x y a.value b.value q (coordinate-moved z at x a.value a.first)
+    (coordinate-moved z at y b.value b.first) same
+
+cons-same : (a b : Point) (as bs : List Point) → a ≡ b → as ≡ bs → a ∷ as ≡ b ∷ bs
+cons-same a b as bs one rest = rw (one, rest) refl
+
+points-moved : (z : FontSize) (at : ℕ) (ds : List RawPoint) (xs ys : List Varied) (ps : List InstancePoint)
+    → instance_points z at ds xs ys ≡ Ok ps
+    → in_units (instance_units ps) (map outline_point (instance_places ps)) ≡ moved_originals z.scale ds xs ys
+points-moved z at [] xs ys ps was = let none : [] ≡ ps = cc in rw (← none) refl
+points-moved z at (d ∷ ds) [] ys ps was = let none : [] ≡ ps = cc in rw (← none) refl
+points-moved z at (d ∷ ds) (x ∷ xs) [] ps was = let none : [] ≡ ps = cc in rw (← none) refl
+points-moved z at (d ∷ ds) (x ∷ xs) (y ∷ ys) ps was =
+    let first = came-through (instance_point z at d.on x y) _ ps was in
+    let rest = came-through (instance_points z at ds xs ys) _ ps first.rest in
+    let same : first.value ∷ rest.value ≡ ps = let done = rest.rest in cc in
+    rw (← same)
+    (cons-same _ _ _ _ (point-moved z at d.on x y first.value first.first)
+    (points-moved z at ds xs ys rest.value rest.first))
+
+ends-moved : (at : ℕ) (p : PhantomPoints) (d : EndDeltas) (u : PhantomPoints) → ends_in_units at p d ≡ Ok u
+    → moved_ends p d ≡ u
+unfolding ends_in_units
+ends-moved at p d u was = let test = passed-else (are_ends (moved_ends p d)) _ _ u was in test.1
+
+-- a simple glyph's ends at an instance
+record IsFineStart (s : Fitter) (g : ℕ) (d : SimpleGlyph) (v : VariedPoints) (f : FineStart) : Type 0 where
+  pub units : moved_ends (default_units s d.x_min g) (ends_of s (length d.points) v) ≡ f.units
+  pub outline : simple_start s (fine_phantom s g d v) g d.code ≡ Ok f.outline
+
+abbrev fine_of : PhantomPoints → Outline → FineStart
+fine_of units o = record { units = units; outline = o }
+
+fine-start-is : (s : Fitter) (g : ℕ) (d : SimpleGlyph) (v : VariedPoints) (f : FineStart) → fine_start s g d v ≡ Ok f
+    → IsFineStart s g d v f
+fine-start-is s g d v f was =
+    let n = length d.points in
+    let units = came-through (units_at s d.x_min g n v) _ f was in
+    let begun = came-through (simple_start s (fine_phantom s g d v) g d.code) _ f units.rest in
+    let same : fine_of units.value begun.value ≡ f = let done = begun.rest in cc in
+    let moved = ends-moved (glyph_offset s.tables g) (default_units s d.x_min g) (ends_of s n v) units.value units.first in
+    rw (← same) (record { units = moved; outline = begun.first })
+
+zone-by : (how : Scaling) (units : List RawPoint) (phantom : PhantomPoints) (o : Outline) (grid : PhantomPoints)
+    → how ≡ scaling.Rounded → glyph_zone (units_by how units phantom) o grid
+    ≡ in_units units (map outline_point o.points) ++ phantom_zone phantom o.phantom grid
+zone-by how units phantom o grid rounded = rw rounded refl
+
+append-same : (as bs cs ds : List Point) → as ≡ bs → cs ≡ ds → as ++ cs ≡ bs ++ ds
+append-same as bs cs ds one rest = rw (one, rest) refl
+
+pub originals-are-moved : OriginalsAreMoved
+originals-are-moved i s g d b rounded some was =
+    let z = size_of s in
+    let at = glyph_offset s.tables g in
+    let by_instance = begun-some i s g (simple d) b some was in
+    let v = came-through (deltas_of i.gvar i.coordinates g (simple d)) (begun_varied s g (simple d)) b by_instance in
+    let fine = came-through (fine_start s g d v.value) _ b v.rest in
+    let moved = came-through (instance_points z at d.points v.value.xs v.value.ys) _ b fine.rest in
+    let is = fine-start-is s g d v.value fine.value fine.first in
+    let phantom = fine_phantom s g d v.value in
+    let ps = moved.value in
+    let o = outline_in_place (instance_places ps) d.ends fine.value.outline in
+    let same : simple_moved s g d fine.value ps ≡ b = let done = moved.rest in cc in
+    rw (← same)
+    (record {
+      deltas = v.value;
+      found = v.first;
+      zone = λ grid. zone-by s.scaling (instance_units ps) fine.value.units o grid rounded
+      ∙ append-same _ _ _ _ (points-moved z at d.points v.value.xs v.value.ys ps moved.first)
+      (ap (λ u. phantom_zone u fine.value.outline.phantom grid) (sym is.units));
+      phantom = λ full. sym (phantom-begun at phantom fine.value.outline
+      (not-bare s phantom g d.code fine.value.outline full is.outline));
+    })
 
 -- with every fit but Best
 in-pixels : (how : Fit) → how ≢ fit.Best → (rules_of how).scaling ≡ scaling.Exact

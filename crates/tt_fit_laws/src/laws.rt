@@ -1,6 +1,6 @@
 //! Laws of the definitions. Each function is a lemma: its clauses hold of all glyphs, and no code runs.
 
-ghost use Rattle.tt_fit.specs.Laws.{FallbackFits, FallbackScales, FallbackRefuses, FallbackUnfitsAll, OthersNeverFallBack, FullIsByPrograms, NoneIsWithoutPrograms, BestIsBounded, WorkFalls, OriginalsAreScaled, OthersMeasureInPixels, OthersFillNone, RulesStay, UnfittedByTypeOne, EmptyByTypeOne, SkippedByTypeOne, FittedByScan, OffFillsNone, OtherTypesFillNone};
+ghost use Rattle.tt_fit.specs.Laws.{FallbackFits, FallbackScales, FallbackRefuses, FallbackUnfitsAll, OthersNeverFallBack, FullIsByPrograms, NoneIsWithoutPrograms, BestIsBounded, WorkFalls, OriginalsAreScaled, DefaultsBeginScaled, OriginalsAreMoved, OthersMeasureInPixels, OthersFillNone, RulesStay, UnfittedByTypeOne, EmptyByTypeOne, SkippedByTypeOne, FittedByScan, OffFillsNone, OtherTypesFillNone};
 ghost use Rattle.tt_fit.specs.Counting.{OutlinesAreCounted};
 ghost use Rattle.tt_fit.specs.Default.{DefaultsAreUnvaried, DefaultsCostTheSame};
 ghost use Rattle.tt_fit.specs.Hinted.{BestRoundsWhereHinted, OthersRoundAlways, EmptyIsOff, LeftoversFit, SwitchedIsOff, UnfittedIsOff, OffIsPlain, EndsAreWhole, SimpleStepsAreWhole};
@@ -37,9 +37,12 @@ pub fn work_falls()
 {}
 
 /// Lemma: with `Fit::Best` and by the font's default, a simple glyph's program measures originals that are its points in
-/// font units, scaled. With every other fit no program measures in font units, and halves round upwards.
+/// font units, scaled. At an instance the originals are whole font units, and the points are scaled from 64ths of one.
+/// With every other fit no program measures in font units, and halves round upwards.
 pub fn originals_are_scaled()
     ensures scaled { OriginalsAreScaled }
+    ensures begun { DefaultsBeginScaled }
+    ensures instance { OriginalsAreMoved }
     ensures others { OthersMeasureInPixels }
 {}
 

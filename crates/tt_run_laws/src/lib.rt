@@ -15,7 +15,7 @@ pub fn lines_are_runs()
     ensures alike { LinesAreTexts }
 {}
 
-/// Lemma: by a plain setting `draw_text` is `run` for the setting's job. A plain setting asks for the picture as it is,
+/// Lemma: by a plain setting `draw_text` is `run` for the setting's job. A plain setting wants the picture as it is,
 /// and refuses no text for a character without a glyph. The bitmap, the refusal and the report of unfitted glyphs are
 /// the same. With `Missing::Draw` nothing else is reported. A call that meets the outcome of `draw_text` meets that of
 /// `run`.
