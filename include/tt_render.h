@@ -39,17 +39,19 @@
  * A font with a table fvar is variable. A job draws an instance of it: a place on each of its axes. The places are
  * those of the font's default, or with instance those of a named instance; then each value of axis, in order, sets
  * every axis with its tag. A place past an end of an axis is the end. Advances, heights, kerning, outlines and programs
- * are those of the instance. With no instance and no value, and where all places are the defaults, each picture is that
- * of the font's default, and no table of variations is read. tt_axes and tt_instances tell what a font has.
+ * are those of the instance. With no instance and no value no table of variations is read. Where all places are the
+ * defaults, fvar and avar alone are read, and each picture is that of the font's default. tt_axes and tt_instances tell
+ * what a font has.
  *
  * A call reports the first refusal in this order: the way to fit, the number of values of axes (73), UTF-8, size,
  * margin, the text's length; the font's size, the place of the face, its tables, and of an instance fvar, the number of
  * the named instance (28), the tags (27), the header of gvar; the picture's size; loca and glyf, the font's programs,
  * the points and the deltas (65), the glyphs, the crossings (65). With TT_BEST the picture's size comes after the
- * glyphs. Without it, at an instance of a font without the table HVAR, the advances of all glyphs come before the
- * picture's size. With grow, the size of the enlarged picture follows: a picture that is empty before it is enlarged is
- * refused (62). The room comes last. Of these, tt_layout and tt_pens report nothing of the crossings. Without TT_BEST
- * they report nothing that follows the picture's size but the room, since they look at no glyph but for advances.
+ * glyphs. Without it, at an instance of a font without the table HVAR, the advances of all glyphs come just after the
+ * header of gvar: loca and glyf, then each glyph's data. With grow, the size of the enlarged picture follows: a picture
+ * that is empty before it is enlarged is refused (62). The room comes last. Of these, tt_layout and tt_pens report
+ * nothing of the crossings. Without TT_BEST they report nothing that follows the picture's size but the room, since they
+ * look at no glyph but for advances.
  *
  * tt_label reports the alignment (72) after the number of values of axes, and the box (70) and the width (69) after the
  * margin. Then it reports what tt_draw does with grow, but never an empty picture (62). With a width the picture's size
@@ -60,8 +62,8 @@
  *
  * tt_glyphs reports too small a room for its entries before all else. Then it reports the way to fit, the number of
  * values of axes, the size, and the count (61); the font's size, the place of the face, its tables, the instance; loca
- * and glyf, the font's programs, the points, the crossings (both 65); and last the room for the rows. A refused glyph
- * has its refusal in its entry.
+ * and glyf, the font's programs, the points and the deltas, the crossings (all 65); and last the room for the rows. A
+ * refused glyph has its refusal in its entry.
  *
  * tt_strike reports the way to fit, the number of values of axes, size, margin; the font's size, the place of the face,
  * its tables, the instance; and last a line that has no rows (62) or too many (63). tt_map_job reports the way to fit,
@@ -76,15 +78,16 @@
  * Cost: tt_faces, tt_open, tt_map, with a face too, tt_map_job, tt_axes, tt_instances and tt_strike read tables alone.
  * So do tt_layout and tt_pens without TT_BEST; with TT_BEST they cost what tt_measure does, less the ink. At an
  * instance of a font without the table HVAR these read the glyphs' data for the advances, which no count bounds. A
- * glyph at an instance takes some 100 instructions for each delta of its points. tt_measure, tt_characters, tt_draw, tt_draw_band and tt_label each run
- * the font's first two programs and fit all glyphs of the text: with hinting mostly some million instructions. This is
- * so even where the room is too small. With a box tt_label does so for each size that it tries: for a text that is far
- * smaller than its box some hundred times. tt_glyphs runs the two programs once and fits each glyph of its list once,
- * also where the room for the rows is too small: a list costs what a text of its glyphs does. tt_draw_lines runs the
- * two programs once, and fits no glyph that is cached: a label of 16 letters then takes some 30,000 instructions.
- * tt_lines_room costs the same, less the rows. With keep 0 each line fits its glyphs anew, for up to a million
- * instructions. With kern a call reads at most 10,000 numbers of GPOS and kern when it opens the font. For each pair of
- * neighbouring glyphs it reads at most 5,120 numbers, up to three times; real fonts need some 50.
+ * glyph at an instance takes some 100 instructions for each delta of its points. tt_measure, tt_characters, tt_draw,
+ * tt_draw_band and tt_label each run the font's first two programs and fit all glyphs of the text: with hinting mostly
+ * some million instructions. This is so even where the room is too small. With a box tt_label does so for each size
+ * that it tries: for a text that is far smaller than its box some hundred times. tt_glyphs runs the two programs once
+ * and fits each glyph of its list once, also where the room for the rows is too small: a list costs what a text of its
+ * glyphs does. tt_draw_lines runs the two programs once, and fits no glyph that is cached: a label of 16 letters then
+ * takes some 30,000 instructions. tt_lines_room costs the same, less the rows. With keep 0 each line fits its glyphs
+ * anew, for up to a million instructions. With kern a call reads at most 10,000 numbers of GPOS and kern when it opens
+ * the font. For each pair of neighbouring glyphs it reads at most 5,120 numbers, up to three times; real fonts need some
+ * 50.
  */
 #ifndef TT_RENDER_H
 #define TT_RENDER_H
@@ -534,8 +537,8 @@ uint32_t tt_lines_room(const uint8_t *font, size_t font_bytes, const uint8_t *te
  * 68 where the font has no such glyph, TT_JOB with 63 where its ink has more than 16,384 columns or 4,096 rows. The
  * other fields of the entry are 0, except glyph and at.
  *
- * With TT_BEST the work of the whole list is bounded as that of a line: the points and the lines of all its glyphs are
- * counted once (65). A glyph for whose programs too little work is left is unfitted, with the number 30.
+ * With TT_BEST the work of the whole list is bounded as that of a line: the points, the deltas and the lines of all its
+ * glyphs are counted once (65). A glyph for whose programs too little work is left is unfitted, with the number 30.
  *
  * Where told_room is less than count, nothing else is looked at: TT_ROOM, bytes 0, count. Where room is too small for
  * the rows, TT_ROOM, the bytes of all rows, count. bytes and count: of all rows, and of the list. NULL goes with room 0

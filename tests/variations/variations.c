@@ -104,9 +104,11 @@ static void write_axes(void) {
   static struct tt_axis_range axes[64];
   static struct tt_instance instances[256];
   struct tt_answer answer;
+  uint64_t count;
   tt_axes(font, font_bytes, 1, axes, sizeof axes / sizeof *axes, &answer);
   if (is_refused(&answer)) return;
-  for (size_t i = 0; i < answer.count; i++) {
+  count = answer.count;
+  for (size_t i = 0; i < count; i++) {
     printf("axis %08" PRIX32 " %" PRId32 " %" PRId32 " %" PRId32, axes[i].tag, axes[i].least, axes[i].default_value,
            axes[i].greatest);
     write_name(axes[i].name);
@@ -115,7 +117,7 @@ static void write_axes(void) {
   if (is_refused(&answer)) return;
   for (size_t k = 0; k < answer.count; k++) {
     printf("instance %" PRIu32, instances[k].instance);
-    for (size_t i = 0; i < instances[k].axes; i++) printf(" %" PRId32, instances[k].place[i]);
+    for (size_t i = 0; i < count; i++) printf(" %" PRId32, instances[k].place[i]);
     write_name(instances[k].name);
   }
 }

@@ -101,7 +101,7 @@ def number(value: int) -> u32:
 
 def fixed(value: float) -> int:
     """A number for C in 16.16, to the nearest, a half away from 0. What C cannot hold becomes the nearest it can."""
-    scaled = math.floor(abs(value) * 65536 + 0.5)
+    scaled = math.floor(min(abs(value), 1 << 15) * 65536 + 0.5)
     return max(-(1 << 31), -scaled) if value < 0 else min((1 << 31) - 1, scaled)
 
 

@@ -75,7 +75,7 @@ drawn_in_box face a b s lines =
       cost = cost_of (work_left s gs) (crossings_in shapes);
     })
 
--- what the glyphs of a size take of the budget that are not drawn: copies, programs and points
+-- what the glyphs of a size take of the budget that are not drawn: copies, programs, points and deltas
 abbrev pub begun_cost : Face → Job → Fitter → ℕ
 begun_cost face a s = if lays_after_glyphs a.fit then cost_of (work_left s (units_glyphs face a)) 0 else 0
 

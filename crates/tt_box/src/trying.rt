@@ -58,7 +58,7 @@ fn work_taken(left: Option<u64>) -> u64
     }
 }
 
-/// The part of the budget that glyphs of a size take without being drawn: copies, programs and points.
+/// The part of the budget that glyphs of a size take without being drawn: copies, programs, points and deltas.
 fn begun_cost(stage: &Stage) -> u64
     ensures { (face : Face) (a : Job) (s : Fitter) → HasStage face a s stage.now → result ≡ begun_cost face a s }
 {
@@ -95,8 +95,9 @@ fn draw_in_box(
 }
 
 /// A text at a size, in a box. Errors, the first of: those of loca and glyf, of the programs; with `Fit::Best` WorkLarge of
-/// the points; those of the glyphs in the order of the text; with `Fit::Best`, where rows fit, WorkLarge of the chords and of
-/// the crossings. Memory may come at any allocation.
+/// the points, and of the deltas; those of the glyphs in the order of the text; with `Fit::Best`, where rows fit, WorkLarge
+/// of the chords and of the crossings. With any other fit, at an instance without HVAR, those of loca and glyf and of the
+/// glyphs' advances come before those of the programs. Memory may come at any allocation.
 pub(crate) fn try_size(
     sized: &mut SizedFace,
     text: &str,

@@ -30,7 +30,7 @@ use Rattle.tt_strike.specs.declared.layouts.Pen.{Pen}
 use Rattle.tt_metrics.specs.Metrics.{Metrics, glyphs_of, metrics_of}
 use Rattle.tt_render_texts.specs.Readings.{fit_reading, reading_asked}
 use Rattle.tt_strike.specs.Job.{Job, job_for, tested}
-use Rattle.tt_strike.specs.Layouts.{made_steps, pens_at, pens_outcome, size_by, steps_outcome}
+use Rattle.tt_strike.specs.Layouts.{found_steps, made_steps, pens_at, pens_outcome, size_by, steps_outcome}
 use Rattle.tt_strike.specs.Picture.{advance_with, made_line, outlines_tested, setting_in}
 use Rattle.tt_strike.specs.Refusals.{as_font, as_job}
 use Rattle.tt_strike.specs.Work.{lays_after_glyphs}

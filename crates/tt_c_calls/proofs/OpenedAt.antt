@@ -106,6 +106,13 @@ instance_read file r face is =
     let was = came-through (directory_by file r) (λ d. face_at d r) face is in (face_in was.value r face was.rest).instance
 
 -- without an instance no advance has to be found
+
+none_found : (face : Face) → face.instance ≡ None → finds_advances face ≡ false
+none_found face none = rw none refl
+
+kept_instance : (a b : Face) → Ok a ≡ Ok b → b.instance ≡ a.instance
+kept_instance a b is = let same : b ≡ a = cc in ap (λ (f : Face). f.instance) same
+
 pub finds_none : (file : List ℕ) (o : Opening) (i : Option Asked) (face : Face) → i ≡ None → face_at_instance file o i ≡ Ok face
     → finds_advances face ≡ false
 unfolding face_at_instance ruled
@@ -114,8 +121,5 @@ finds_none file o i face none is =
     let moved = came-through (face_at_asked was.value i) _ face was.rest in
     let same : face ≡ ruled o.rules moved.value = cc in
     let kept : Ok was.value ≡ Ok moved.value = rw none at moved.first in
-    let own : moved.value.instance ≡ None = rw (instance_read file o.reading was.value was.first) (kept_instance was.value moved.value kept) in
-    rw (same, own) refl
-  where
-    kept_instance : (a b : Face) → Ok a ≡ Ok b → b.instance ≡ a.instance
-    kept_instance a b is = let same : b ≡ a = cc in rw same refl
+    none_found face (ap (λ (f : Face). f.instance) same ∙ kept_instance was.value moved.value kept
+    ∙ instance_read file o.reading was.value was.first)

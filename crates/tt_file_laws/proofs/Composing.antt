@@ -7,6 +7,7 @@ use Rattle.std.proofs.lemmas.List.{get_or-drop, get_or-take, length-map}
 use Rattle.std.proofs.lemmas.List.Elements.{All-contains, All-head, All-tail}
 use Rattle.std.proofs.lemmas.List.Sums.{sum_by-cons}
 use Rattle.std.proofs.lemmas.Nat.{mul-le}
+use Rattle.tt_advances.specs.Found.{units_of}
 use Rattle.tt_bdf.specs.Bitmap.{row_bytes}
 use Rattle.tt_bdf.specs.Composed.{bitmap_bit, character_shows, characters_in, composed}
 use Rattle.tt_bdf.specs.declared.character.BdfCharacter.{BdfCharacter}
@@ -31,7 +32,7 @@ use Rattle.tt_glyphs.specs.Requests.{Bitmaps}
 use Rattle.tt_glyphs.proofs.ListBegun.{setting_source}
 use Rattle.tt_line.specs.Layout.{Placement, depth_of, extent_by, placed_in, rise_of, text_glyphs}
 use Rattle.tt_line.proofs.Pens.{glyphs_by_steps}
-use Rattle.tt_metrics.specs.Metrics.{Metrics, advance_of, glyphs_of}
+use Rattle.tt_metrics.specs.Metrics.{Metrics, glyphs_of}
 use Rattle.tt_picture.specs.Distinct.{is_among}
 use Rattle.tt_picture.specs.Pictures.{Image, image}
 use Rattle.tt_picture.proofs.Alike.{image_alike}
@@ -112,7 +113,7 @@ its_character how face s cs x = character_by face x (entry_of how s (glyphs_for 
 coded : (how : Fit) (face : Face) (s : Fitter) (cs : List ℕ) (x : ℕ) → (its_character how face s cs x).code ≡ x
 coded how face s cs x =
     let e = entry_of how s (glyphs_for face.cmap cs) (glyph_for face.cmap x) in
-    code_is x (advance_of face.metrics (glyph_for face.cmap x)) e.at e.told
+    code_is x (units_of face (glyph_for face.cmap x)) e.at e.told
 
 pub encodings_rise : CodesRise → EncodingsRise
 encodings_rise rise a face cs b was =
@@ -141,7 +142,7 @@ one_shown rows how face s cs gs line x pen c r d =
     let g = glyph_for face.cmap x in
     let all = all_rows how s fs in
     let e = entry_of how s fs g in
-    let units = advance_of face.metrics g in
+    let units = units_of face g in
     let k : ℤ = (pos c -ℤ pos 0) -ℤ pos pen in
     let j : ℤ = ((line.rise +ℤ pos 0) -ℤ pos 1) -ℤ pos r in
     let column : k ≡ pos c -ℤ pos pen = omega (arith, ints) in
@@ -157,7 +158,7 @@ step_is advances how face s cs gs x d =
     let fs = glyphs_for face.cmap cs in
     let g = glyph_for face.cmap x in
     let e = entry_of how s fs g in
-    ap (λ (t : Told). (character_told x (advance_of face.metrics g) e.at t).advance) d.report
+    ap (λ (t : Told). (character_told x (units_of face g) e.at t).advance) d.report
     ∙ advances how s fs gs g d.bitmap d.report d.alike
 
 -- all characters of a text, from a pen on

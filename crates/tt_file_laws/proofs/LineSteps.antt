@@ -1,8 +1,11 @@
 -- A line without kerning: its glyphs at their pens, which the advances before them lead to.
-use Rattle.std.proofs.Common.{◌≡◌, ◌∙◌, refl, sym, ap, ap₂, ℕ, suc, ◌+◌, ◌*◌, ◌<◌, Bool, true, false, ◌||◌, ◌==◌, if◌then◌else◌, nat_lt, ℤ, pos, ◌+ℤ◌, int_lt, List, [], ◌∷◌, chars, length, map, slice_index, sum, take, None, Result, Ok, Err, All, inl, arith}
+use Rattle.std.proofs.Common.{◌≡◌, ◌∙◌, refl, sym, ap, ap₂, ℕ, suc, ◌+◌, ◌*◌, ◌/◌, ◌<◌, Bool, true, false, ◌||◌, ◌==◌, if◌then◌else◌, nat_lt, ℤ, pos, neg_ℤ, ◌+ℤ◌, ◌*ℤ◌, int_lt, unsigned_abs, List, [], ◌∷◌, chars, length, map, slice_index, sum, take, None, Result, Ok, Err, All, arith}
 use Rattle.std.specs.List.{range_with_len}
 use Rattle.std.proofs.lemmas.Int.{ints}
 use Rattle.std.proofs.lemmas.List.Sums.{sum_by-cons}
+use Rattle.tt_advances.proofs.Finding.{units_are}
+use Rattle.tt_advances.specs.Found.{units_of}
+use Rattle.tt_advances.specs.Lines.{advance_step, advance_steps}
 use Rattle.tt_cmap.specs.declared.units.TextUnit.{TextUnit}
 use Rattle.tt_cmap.specs.Maps.{CharacterMap, glyph_of_unit, strict, units_by, wide}
 use Rattle.tt_cmap.specs.Units.{is_selector, plain_unit}
@@ -11,25 +14,26 @@ use Rattle.tt_core.specs.Chains.{came-through}
 use Rattle.tt_core.specs.declared.fault.JobFault.{JobFault}
 use Rattle.tt_core.specs.declared.fault.JobFault.TheVariants as job
 use Rattle.tt_core.specs.Limits.{height_limit, width_limit}
+use Rattle.tt_core.specs.Numbers.{nearest_quotient, rounded_quotient}
 use Rattle.tt_core.specs.Scales.{factor, rounded_scale, scaled_by}
 use Rattle.tt_core.specs.declared.halves.Halves.TheVariants as halves
 use Rattle.tt_face.specs.Faces.{Face}
 use Rattle.tt_fit.specs.declared.programs.Fit.{Fit}
 use Rattle.tt_fit.specs.Fitting.{Fitter}
 use Rattle.tt_fit.proofs.WorkApart.{work-is-apart}
-use Rattle.tt_glyphs.specs.Entries.{advance_by}
+use Rattle.tt_glyphs.specs.Entries.{advance_by, fitter_units}
 use Rattle.tt_glyphs.proofs.ListBegun.{setting_source}
 use Rattle.tt_line.specs.declared.extent.PictureExtent.{PictureExtent}
-use Rattle.tt_line.specs.Layout.{Placement, advance_in_pixels, depth_of, extent_by, glyphs_at_pens, laid, laid_at, placed_in, placement, rise_of, text_glyphs, within_limits}
-use Rattle.tt_line.specs.Steps.{kerning_before, linear_steps, stepped}
-use Rattle.tt_line.proofs.Stepped.{no-table, unkerned_line}
+use Rattle.tt_line.specs.Layout.{Placement, depth_of, extent_by, glyphs_at_pens, laid, laid_at, placed_in, rise_of, text_glyphs, units_in_pixels, within_limits}
+use Rattle.tt_line.specs.Steps.{at_least, kerning_before, step_of_units, stepped}
+use Rattle.tt_line.proofs.Stepped.{unkerned_before}
 use Rattle.tt_metrics.specs.Metrics.{Metrics, units_per_em_of}
 use Rattle.tt_picture.specs.Steps.{glyph_step, step_by}
 use Rattle.tt_strike.specs.Job.{Job}
-use Rattle.tt_strike.specs.Picture.{advance_with, outlines_tested, placed_by_steps, setting_in, steps_in, text_placed}
+use Rattle.tt_strike.specs.Picture.{advance_with, outlines_tested, placed_by_steps, placed_by_units, setting_in, steps_in, text_placed}
 use Rattle.tt_strike.specs.Refusals.{as_font}
 use Rattle.tt_strike.specs.Work.{is_bounded, line_fitter}
-use Rattle.tt_strike.proofs.Placed.{of-font, of-job, placed_by_advances, placed_by_its_steps}
+use Rattle.tt_strike.proofs.Placed.{laid_by_units, of-font, of-job, placed_by_its_steps, placed_by_its_units}
 use Rattle.tt_strike.proofs.Setting.{maker_alike}
 use Rattle.tt_bitmap_font.specs.Characters.{glyphs_for}
 
@@ -53,10 +57,6 @@ plain_glyphs m text plain =
 abbrev pub steps_of : Fit → Fitter → List ℕ → List ℕ → List ℕ
 steps_of how s line gs = map (λ (g : ℕ). advance_by how (line_fitter s line g) g) gs
 
-unkerned : (m : Metrics) (g : ℕ) (gs : List ℕ) → m.kerning ≡ None → kerning_before m g gs ≡ pos 0
-unkerned m g [] off = refl
-unkerned m g (h ∷ hs) off = no-table m g h (inl off)
-
 nothing_scaled : (pixels : ℕ)
     → scaled_by (record { pixels = pixels; units = 65536; halves = halves.AwayFromZero }) (pos 0) ≡ pos 0
 nothing_scaled pixels = let none : 0 * pixels ≡ 0 = omega arith in rw none refl
@@ -73,12 +73,33 @@ own_steps : (m : Metrics) (ppem : ℕ) (s : Fitter) (line gs : List ℕ) → m.k
     ≡ map (λ (g : ℕ). glyph_step (line_fitter s line g) g) gs
 own_steps m ppem s line [] off = refl
 own_steps m ppem s line (g ∷ gs) off =
-    ap₂ (λ (n : ℕ) (ns : List ℕ). n ∷ ns) (step_alone m ppem s line g (kerning_before m g gs) (unkerned m g gs off))
+    ap₂ (λ (n : ℕ) (ns : List ℕ). n ∷ ns) (step_alone m ppem s line g (kerning_before m g gs) (unkerned_before m g gs off))
     (own_steps m ppem s line gs off)
 
-seconds : (f : ℕ → ℕ) (gs : List ℕ) → map (λ (p : ℕ × ℕ). p.1) (map (λ (g : ℕ). (g, f g)) gs) ≡ map f gs
-seconds f [] = refl
-seconds f (g ∷ gs) = ap (λ (ns : List ℕ). f g ∷ ns) (seconds f gs)
+not_below : (n : ℕ) → int_lt (pos n) (pos 0) ≡ false
+not_below n = grind (arith, ints)
+
+quotient_of : (n d : ℕ) → rounded_quotient (pos n) (pos d) ≡ pos ((2 * n + d) / (2 * d))
+quotient_of n d =
+    ap (λ (b : Bool). if b then nearest_quotient (neg_ℤ (pos n)) (neg_ℤ (pos d)) else nearest_quotient (pos n) (pos d)) (not_below d)
+
+-- the step of an advance without kerning
+units_alone : (m : Metrics) (ppem units : ℕ) → step_of_units m ppem units (pos 0) ≡ units_in_pixels m ppem units
+units_alone m ppem units =
+    let em = units_per_em_of m in
+    let sum : pos units +ℤ pos 0 ≡ pos units = omega (arith, ints) in
+    ap (λ (n : ℤ). at_least 0 (rounded_quotient (n *ℤ pos ppem) (pos em))) sum
+    ∙ ap (λ (n : ℤ). at_least 0 n) (quotient_of (units * ppem) em)
+    ∙ ap (λ (b : Bool). if b then 0 else ((2 * (units * ppem) + em) / (2 * em))) (not_below ((2 * (units * ppem) + em) / (2 * em)))
+    ∙ sym (ap (λ (n : ℤ). unsigned_abs n) (quotient_of (units * ppem) em))
+
+found_steps : (face : Face) (ppem : ℕ) (gs : List ℕ) → face.metrics.kerning ≡ None
+    → advance_steps face ppem gs ≡ map (λ (g : ℕ). units_in_pixels face.metrics ppem (units_of face g)) gs
+found_steps face ppem [] off = refl
+found_steps face ppem (g ∷ gs) off =
+    let one : advance_step face ppem g (kerning_before face.metrics g gs) ≡ units_in_pixels face.metrics ppem (units_of face g) =
+    ap (λ (k : ℤ). advance_step face ppem g k) (unkerned_before face.metrics g gs off) ∙ units_alone face.metrics ppem (units_of face g) in
+    ap₂ (λ (n : ℕ) (ns : List ℕ). n ∷ ns) one (found_steps face ppem gs off)
 
 same_steps : (f h : ℕ → ℕ) (gs : List ℕ) → ((g : ℕ) → f g ≡ h g) → map f gs ≡ map h gs
 same_steps f h [] same = refl
@@ -92,15 +113,18 @@ by_advance : (b : Bool) (x y z : ℕ) → b ≡ false → y ≡ z → y ≡ (if 
 by_advance true x y z is same = absurd cc
 by_advance false x y z is same = same
 
-linear : (face : Face) (a : Job) (s : Fitter) (line : List ℕ) (g : ℕ) → setting_in face a ≡ Ok s → is_bounded a.fit ≡ false
-    → advance_in_pixels face.metrics a.ppem g ≡ advance_by a.fit (line_fitter s line g) g
-linear face a s line g there other =
+found : (face : Face) (a : Job) (s : Fitter) (line : List ℕ) (g : ℕ) → setting_in face a ≡ Ok s → is_bounded a.fit ≡ false
+    → units_in_pixels face.metrics a.ppem (units_of face g) ≡ advance_by a.fit (line_fitter s line g) g
+found face a s line g there other =
     let u = line_fitter s line g in
     let source = setting_source face a.ppem a.fit s there in
     let apart = work-is-apart s u (maker_alike s line g) in
-    let same : advance_in_pixels face.metrics a.ppem g ≡ advance_in_pixels u.metrics u.ppem g =
-    rw (apart.metrics, apart.ppem, source.0, source.1) refl in
-    by_advance (is_bounded a.fit) (glyph_step u g) (advance_in_pixels face.metrics a.ppem g) (advance_in_pixels u.metrics u.ppem g) other same
+    let units : fitter_units u g ≡ units_of face g =
+    rw (apart.instance, apart.metrics, apart.tables, source.2, source.0) (units_are face s.tables g source.3) in
+    let same : units_in_pixels face.metrics a.ppem (units_of face g) ≡ units_in_pixels u.metrics u.ppem (fitter_units u g) =
+    rw (units, apart.metrics, apart.ppem, source.0, source.1) refl in
+    by_advance (is_bounded a.fit) (glyph_step u g) (units_in_pixels face.metrics a.ppem (units_of face g))
+    (units_in_pixels u.metrics u.ppem (fitter_units u g)) other same
 
 -- the line
 
@@ -153,17 +177,17 @@ laid_by_steps face a s line off bounded there was =
     (λ g. by_step (is_bounded a.fit) (glyph_step (line_fitter s gs g) g) _ bounded) in
     placed ∙ ap (λ (ns : List ℕ). placed_in gs ns (rise_of m a.ppem) (extent_by ns a.margin (rise_of m a.ppem) (depth_of m a.ppem))) steps
 
-laid_by_advances : (face : Face) (a : Job) (s : Fitter) (line : Placement) → face.metrics.kerning ≡ None → is_bounded a.fit ≡ false
-    → setting_in face a ≡ Ok s → placement face.metrics face.cmap a.text a.ppem a.margin ≡ Ok line
+laid_by_found : (face : Face) (a : Job) (s : Fitter) (line : Placement) → face.metrics.kerning ≡ None → is_bounded a.fit ≡ false
+    → setting_in face a ≡ Ok s → placed_by_units face a ≡ Ok line
     → IsLaidBy face a (text_glyphs face.cmap a.text) (steps_of a.fit s (text_glyphs face.cmap a.text) (text_glyphs face.cmap a.text)) line
-unfolding placement
-laid_by_advances face a s line off other there was =
+laid_by_found face a s line off other there was =
     let gs = text_glyphs face.cmap a.text in
     let m = face.metrics in
-    let placed = placed_is gs (linear_steps m a.ppem gs) a.margin (rise_of m a.ppem) (depth_of m a.ppem) line was in
-    let steps : linear_steps m a.ppem gs ≡ steps_of a.fit s gs gs =
-    ap (λ (ps : List (ℕ × ℕ)). map (λ (p : ℕ × ℕ). p.1) ps) (unkerned_line m a.ppem gs off) ∙ seconds (advance_in_pixels m a.ppem) gs
-    ∙ same_steps (advance_in_pixels m a.ppem) (λ g. advance_by a.fit (line_fitter s gs g) g) gs (λ g. linear face a s gs g there other) in
+    let placed = placed_is gs (advance_steps face a.ppem gs) a.margin (rise_of m a.ppem) (depth_of m a.ppem) line (laid_by_units face a line was).laid in
+    let steps : advance_steps face a.ppem gs ≡ steps_of a.fit s gs gs =
+    found_steps face a.ppem gs off
+    ∙ same_steps (λ g. units_in_pixels m a.ppem (units_of face g)) (λ g. advance_by a.fit (line_fitter s gs g) g) gs
+    (λ g. found face a s gs g there other) in
     placed ∙ ap (λ (ns : List ℕ). placed_in gs ns (rise_of m a.ppem) (extent_by ns a.margin (rise_of m a.ppem) (depth_of m a.ppem))) steps
 
 laid_by : (bounded : Bool) (face : Face) (a : Job) (s : Fitter) (line : Placement) → is_bounded a.fit ≡ bounded
@@ -172,8 +196,7 @@ laid_by : (bounded : Bool) (face : Face) (a : Job) (s : Fitter) (line : Placemen
 laid_by true face a s line is off there placed =
     laid_by_steps face a s line off is there (sym (placed_by_its_steps face a is) ∙ placed)
 laid_by false face a s line is off there placed =
-    laid_by_advances face a s line off is there
-    (of-job (placement face.metrics face.cmap a.text a.ppem a.margin) line (sym (placed_by_advances face a is) ∙ placed))
+    laid_by_found face a s line off is there (sym (placed_by_its_units face a is) ∙ placed)
 
 pub line_is : (face : Face) (a : Job) (s : Fitter) (line : Placement) → face.metrics.kerning ≡ None → setting_in face a ≡ Ok s
     → text_placed face a ≡ Ok line

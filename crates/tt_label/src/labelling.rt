@@ -58,9 +58,11 @@ fn draw_label(
 ///
 /// Errors, the first of: MarginRange, TextLong; PictureLarge; those of loca and glyf; those of the programs; those of
 /// the glyphs in the order of the text; PictureLarge of the larger picture. With `Fit::Best` the first PictureLarge comes
-/// after those of the glyphs. Before the glyphs comes WorkLarge of their points, and after it WorkLarge of their chords
-/// and of their crossings. Memory may come at any allocation. A refused label too may change the cached glyphs.
-/// `draw_label` is apart (for the prover): that function has the face and the cache one by one.
+/// after those of the glyphs. Before the glyphs comes WorkLarge of their points, and of their deltas, and after it
+/// WorkLarge of their chords and of their crossings. With any other fit, at an instance without HVAR, those of loca and
+/// glyf and of the glyphs' advances come before the first PictureLarge. Memory may come at any allocation. A refused
+/// label too may change the cached glyphs. `draw_label` is apart (for the prover): that function has the face and the
+/// cache one by one.
 pub fn label(
     strike: &mut Strike,
     text: &str,

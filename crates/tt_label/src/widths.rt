@@ -239,11 +239,12 @@ fn draw_in_width(
 /// below so that no ink is cut there. Ink past the sides is cut, and the columns of ink that are cut are counted.
 ///
 /// Errors, the first of: MarginRange, TextLong; those of loca and glyf, of the programs; with `Fit::Best` WorkLarge of the
-/// points; those of the glyphs in the order of the text; PictureLarge; with `Fit::Best` WorkLarge of the chords and of the
-/// crossings; PictureLarge of the higher picture. PictureLarge comes where the picture has more than 4,096 rows, or where
-/// the widest row and the columns that are skipped at its left have more than 16,384 columns. Memory may come at any
-/// allocation. A refused label too may change the cached glyphs. `draw_in_width` is apart (for the prover): that function
-/// has the face and the cache one by one.
+/// points, and of the deltas; those of the glyphs in the order of the text; PictureLarge; with `Fit::Best` WorkLarge of the
+/// chords and of the crossings; PictureLarge of the higher picture. With any other fit, at an instance without HVAR, those
+/// of loca and glyf and of the glyphs' advances come before those of the programs. PictureLarge comes where the picture
+/// has more than 4,096 rows, or where the widest row and the columns that are skipped at its left have more than 16,384
+/// columns. Memory may come at any allocation. A refused label too may change the cached glyphs. `draw_in_width` is apart
+/// (for the prover): that function has the face and the cache one by one.
 pub fn label_in_width(
     strike: &mut Strike,
     text: &str,

@@ -1,9 +1,10 @@
 -- Cached glyphs equal those made anew.
-use Rattle.std.proofs.Common.{◌≡◌, ◌∙◌, ℕ, ◌++◌, subst, ◌-◌, ◌<◌, ◌≤◌, Bool, true, false, ◌==◌, if◌then◌else◌, nat_eq, List, [], ◌∷◌, Option, None, Some, ◌⊎◌, refl, sym}
+use Rattle.std.proofs.Common.{◌≡◌, ◌∙◌, ℕ, ◌++◌, subst, ◌-◌, ◌<◌, ◌≤◌, Bool, true, false, ◌==◌, if◌then◌else◌, nat_eq, List, [], ◌∷◌, Option, None, Some, ◌⊎◌, ap, refl, sym}
 use Rattle.std.specs.Prelude.{IfSome}
 use Rattle.std.specs.Map.{lookup, remove_entry}
 use Rattle.tt_fit.proofs.WorkApart.{costs-stay, glyphs-take-work-alone, work-is-apart}
 use Rattle.tt_fit.specs.Counting.{points_asked}
+use Rattle.tt_fit.specs.DeltaCounting.{deltas_asked}
 use Rattle.tt_fit.specs.Fitting.{Fitter, after_glyph}
 use Rattle.tt_fit.specs.GlyphCost.{all_used, without_work}
 use Rattle.tt_fit.specs.outline.Outline.{Outline}
@@ -16,6 +17,7 @@ use Rattle.tt_scan_dropouts.specs.declared.boxed.BoxedRules.{BoxedRules}
 use Rattle.tt_strike_kept.proofs.CallerLemmas.{all_found, all_kept}
 use Rattle.tt_strike_kept.specs.Glyph.{KeptGlyph}
 use Rattle.tt_strike_kept.specs.Kept.{Kept, bytes_of, fitting}
+use Rattle.tt_strike_kept.specs.declared.glyph.KeptCounts.{KeptCounts}
 
 abbrev pub IsAsMade : Fitter → ℕ × KeptGlyph → Type 0
 IsAsMade s e = IsCached s e.0 e.1
@@ -34,13 +36,23 @@ pub one_put : (s : Fitter) (old new : Kept) (n : ℕ) (g : KeptGlyph) → (old.m
     → IsCached s n g → IsCacheFor s (Some old) → IsCacheFor s (Some new)
 one_put s old new n g larger entries one own = all_kept (IsAsMade s) old new n g larger entries one own
 
--- the points of a glyph found in the cache
-pub points_found : (n : ℕ) (k : Kept) (c : Option Kept) (points : Option ℕ) → c ≡ Some k
-    → IfSome points (λ p. (g : KeptGlyph) × (lookup (nat_eq n) k.entries ≡ Some g) × (p ≡ g.points))
-    → IfSome points (λ p. (s : Fitter) → IsCacheFor s c → p ≡ points_asked s.tables s.levels n)
+-- the counts of a glyph found in the cache
+abbrev pub HasCounts : ℕ → Kept → Option KeptCounts → Type 0
+HasCounts n k counts = IfSome counts (λ c. (g : KeptGlyph) × (lookup (nat_eq n) k.entries ≡ Some g) × (c ≡ g.counts))
+
+pub points_found : (n : ℕ) (k : Kept) (c : Option Kept) (counts : Option KeptCounts) → c ≡ Some k → HasCounts n k counts
+    → IfSome counts (λ p. (s : Fitter) → IsCacheFor s c → p.points ≡ points_asked s.tables s.levels n)
 points_found n k c None there found = tt
 points_found n k c (Some p) there found = λ s own.
-    let one = all_found (IsAsMade s) n k.entries found.0 (rw there at own) found.1 in found.2 ∙ one.points
+    let one = all_found (IsAsMade s) n k.entries found.0 (rw there at own) found.1 in
+    ap (λ (p : KeptCounts). p.points) found.2 ∙ one.points
+
+pub deltas_found : (n : ℕ) (k : Kept) (c : Option Kept) (counts : Option KeptCounts) → c ≡ Some k → HasCounts n k counts
+    → IfSome counts (λ p. (s : Fitter) → IsCacheFor s c → p.deltas ≡ deltas_asked s.instance s.tables s.levels n)
+deltas_found n k c None there found = tt
+deltas_found n k c (Some p) there found = λ s own.
+    let one = all_found (IsAsMade s) n k.entries found.0 (rw there at own) found.1 in
+    ap (λ (p : KeptCounts). p.deltas) found.2 ∙ one.deltas
 
 -- the cache is that of every fitter that differs in its remaining work alone
 
@@ -60,9 +72,10 @@ one_stays s t n k same is =
     let way = same_rule s.work t.work alike.bound in
     record {
       shape = is.shape;
-      made = costs-stay s t n k.cost is.shape k.unfitted same is.made;
+      made = costs-stay s t n k.counts.cost is.shape k.unfitted same is.made;
       shown = rw (alike.dropouts k.unfitted is.shape) (outline_stays s t _ is.shape k way is.shown);
       points = rw (alike.tables, alike.levels) is.points;
+      deltas = rw (alike.instance, alike.tables, alike.levels) is.deltas;
     }
 
 pub cached_stays : CachedStays

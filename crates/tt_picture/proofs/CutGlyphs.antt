@@ -6,6 +6,7 @@ use Rattle.tt_arc.proofs.Closed.{all_closed}
 use Rattle.tt_arc.specs.declared.rule.ChordRule.{ChordRule}
 use Rattle.tt_fit.proofs.WorkApart.{own-work}
 use Rattle.tt_fit.specs.Counting.{counted, points_asked}
+use Rattle.tt_fit.specs.DeltaCounting.{deltas_asked}
 use Rattle.tt_fit.specs.Dropouts.{dropouts_of}
 use Rattle.tt_fit.specs.Fitting.{Fitter, fitted_outline, unfitted_fault, with_work}
 use Rattle.tt_fit.specs.GlyphCost.{IsMade, IsMadeFor, all_used}
@@ -19,7 +20,6 @@ use Rattle.tt_picture.specs.Fitted.{kept, outlined, FittedGlyph, IsFitted, IsFit
 use Rattle.tt_picture.specs.Glyphs.{CanBeCut, Glyph, GlyphBody, IsBodyOf, IsDrawn, LargeGlyph, large, small}
 use Rattle.tt_picture.specs.Shapes.{chords_with, contours_of, edges_at, extents_of, filled_by, filling_crossings, offset_at, rules_for}
 use Rattle.tt_picture.specs.Steps.{chords_of}
-use Rattle.tt_picture.specs.declared.outlined.KeptCounts.{KeptCounts}
 use Rattle.tt_picture.proofs.Inked.{body_as}
 use Rattle.tt_picture.proofs.OutlineBox.{outline_boxed, rules_boxed}
 use Rattle.tt_scan.specs.Contours.{AreEnds, IsClosed, contours_at}
@@ -28,6 +28,7 @@ use Rattle.tt_scan_dropouts.specs.Counted.{edges_counted}
 use Rattle.tt_scan_dropouts.specs.declared.boxed.BoxedRules.{BoxedRules}
 use Rattle.tt_scan_gaps.specs.Boxes.{ExtentsFit, IsBoxOf}
 use Rattle.tt_strike_kept.specs.Glyph.{KeptGlyph}
+use Rattle.tt_strike_kept.specs.declared.glyph.KeptCounts.{KeptCounts}
 
 -- a glyph has the pixels and the facts of an outline
 pub record IsGlyphOf (s : Fitter) (n : ℕ) (o : Outline) (g : Glyph) : Type 0 where
@@ -80,8 +81,9 @@ made_of s g n m same is =
 pub made_cached : (s : Fitter) (n : ℕ) (o : Outline) (m : MadeOutline) (g : Glyph) (k : KeptGlyph) → IsMadeOutline s n o m
     → IsGlyphOf s n o g → IsKeptOf g m.counts k → IsCached s n k
 made_cached s n o m g k made is has =
-    let points : k.points ≡ points_asked s.tables s.levels n = rw has.counted at made.points in
-    let paid : IsMadeFor s n k.cost o m.unfitted = rw has.counted at made.made in
+    let points : k.counts.points ≡ points_asked s.tables s.levels n = rw has.counted at made.points in
+    let deltas : k.counts.deltas ≡ deltas_asked s.instance s.tables s.levels n = rw has.counted at made.deltas in
+    let paid : IsMadeFor s n k.counts.cost o m.unfitted = rw has.counted at made.made in
     let fault : k.unfitted ≡ unfitted_fault s n = has.unfitted ∙ is.unfitted in
     let reason : k.unfitted ≡ m.unfitted = fault ∙ sym made.unfitted in
     let rules : filled_by s n o ≡ rules_for (extents_of o) (dropouts_of s k.unfitted o) =
@@ -98,6 +100,7 @@ made_cached s n o m g k made is has =
       made = rw reason paid;
       shown = rw rules at shown;
       points = points;
+      deltas = deltas;
     }
 
 -- a glyph from the cache
@@ -163,11 +166,11 @@ counts_made stays s n o reason None cost told made is each by some = tt
 counts_made stays s n o reason (Some k) cost told made is each by some =
     let own = rw some at by in cost_made stays s n k.cost o reason told made is each own
 
-pub counts_points : (s : Fitter) (n : ℕ) (counts : Option KeptCounts) (points : Option ℕ)
-    → IfSome points (λ p. p ≡ points_asked s.tables s.levels n) → IfSome counts (λ k. points ≡ Some k.points)
-    → IfSome counts (λ k. k.points ≡ points_asked s.tables s.levels n)
-counts_points s n None points are some = tt
-counts_points s n (Some k) points are some = rw some at are
+-- so are its points and its deltas
+pub counts_are : (part : KeptCounts → ℕ) (asked : ℕ) (counts : Option KeptCounts) (told : Option ℕ)
+    → IfSome told (λ n. n ≡ asked) → IfSome counts (λ k. told ≡ Some (part k)) → IfSome counts (λ k. part k ≡ asked)
+counts_are part asked None told are some = tt
+counts_are part asked (Some k) told are some = rw some at are
 
 -- the pixels of a glyph that is made can be cut
 

@@ -2,6 +2,7 @@
 -- the glyph equals the one made anew.
 use Rattle.std.specs.Prelude.{◌≡◌, ℕ, ◌+◌, Bool, true, false, ℤ, List, [], All, Option, None, Some, ⊤}
 use Rattle.tt_fit.specs.Counting.{points_asked}
+use Rattle.tt_fit.specs.DeltaCounting.{deltas_asked}
 use Rattle.tt_fit.specs.Dropouts.{dropouts_of}
 use Rattle.tt_fit.specs.Fitting.{Fitter}
 use Rattle.tt_fit.specs.GlyphCost.{IsMadeFor, without_work}
@@ -32,12 +33,13 @@ pub record IsOfOutline (s : Fitter) (filled : Option BoxedRules) (o : Outline) (
   pub chords : k.chords ≡ chords_of (chords_with s) o
 
 -- the cached glyph of this number is made so wherever its cost is left of a job's work, and the rest is left then; its
--- points are counted
+-- points are counted, and its deltas at the fitter's instance
 pub record IsCached (s : Fitter) (number : ℕ) (k : KeptGlyph) : Type 0 where
   pub shape : Outline
-  pub made : IsMadeFor s number k.cost shape k.unfitted
+  pub made : IsMadeFor s number k.counts.cost shape k.unfitted
   pub shown : IsOfOutline s (rules_for (extents_of shape) (dropouts_of s k.unfitted shape)) shape k
-  pub points : k.points ≡ points_asked s.tables s.levels number
+  pub points : k.counts.points ≡ points_asked s.tables s.levels number
+  pub deltas : k.counts.deltas ≡ deltas_asked s.instance s.tables s.levels number
 
 -- all cached glyphs are
 abbrev pub AreCachedFor : Fitter → List (ℕ × KeptGlyph) → Type 0

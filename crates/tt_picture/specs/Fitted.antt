@@ -4,6 +4,7 @@ use Rattle.std.specs.Prelude.{◌≡◌, ℕ, ℤ, ◌+◌, All, IfSome, List, m
 use Rattle.std.specs.List.{sum_by}
 use Rattle.tt_core.specs.Faults.{Fault}
 use Rattle.tt_fit.specs.Counting.{points_asked}
+use Rattle.tt_fit.specs.DeltaCounting.{deltas_asked}
 use Rattle.tt_fit.specs.Fitting.{Fitter, fitted_outline, unfitted_fault}
 use Rattle.tt_fit.specs.GlyphCost.{IsMadeFor}
 use Rattle.tt_fit.specs.outline.Outline.{Outline}
@@ -16,8 +17,8 @@ use Rattle.tt_picture.specs.Cached.{IsOfOutline}
 use Rattle.tt_picture.specs.Glyphs.{Glyph, crossings_cut}
 use Rattle.tt_picture.specs.Shapes.{chords_with, edges_at, filled_by, filling_crossings}
 use Rattle.tt_picture.specs.Steps.{chords_of}
-use Rattle.tt_picture.specs.declared.outlined.KeptCounts.{KeptCounts}
 use Rattle.tt_strike_kept.specs.Glyph.{KeptGlyph}
+use Rattle.tt_strike_kept.specs.declared.glyph.KeptCounts.{KeptCounts}
 
 -- an outline, its chord rule, its dropout rules at pen 0, what it counts if it is to be cached, and the fault that makes
 -- it unfitted
@@ -67,6 +68,7 @@ pub record IsMadeOutline (s : Fitter) (number : ℕ) (o : Outline) (m : MadeOutl
   pub unfitted : m.unfitted ≡ unfitted_fault s number
   pub fits : IfSome m.filled (λ rules. ExtentsFit rules.extents)
   pub points : IfSome m.counts (λ n. n.points ≡ points_asked s.tables s.levels number)
+  pub deltas : IfSome m.counts (λ n. n.deltas ≡ deltas_asked s.instance s.tables s.levels number)
   pub made : IfSome m.counts (λ n. IsMadeFor s number n.cost o m.unfitted)
 
 -- a body gives the edges or the pixels of a glyph's outline

@@ -3,13 +3,14 @@
 ghost use Rattle.std.specs.Prelude.{◌≡◌, ◌≤◌, ◌/◌, [], nat_eq, IfOk, IfSome, None, Some};
 ghost use Rattle.std.specs.Map.{lookup};
 ghost use Rattle.tt_fit.specs.Counting.{points_asked};
+ghost use Rattle.tt_fit.specs.DeltaCounting.{deltas_asked};
 ghost use Rattle.tt_fit.specs.Fitting.{Fitter};
 ghost use Rattle.tt_picture.specs.Cached.{IsCacheFor, IsCached, entries_of, is_there, limit_of};
 ghost use Rattle.tt_strike_kept.specs.Kept.{bytes_in};
 
 use std::alloc::{AllocError, Global};
 use std::marker::Model;
-use tt_strike_kept::{KeptGlyph, KeptGlyphs};
+use tt_strike_kept::{KeptCounts, KeptGlyph, KeptGlyphs};
 
 /// The glyphs that are cached from line to line, or no cache at all.
 #[derive(Drop)]
@@ -64,12 +65,13 @@ impl Cache {
         }
     }
 
-    /// The points of the glyph with this number; None where it is not cached.
-    pub fn points(&self, number: u16) -> Option<u64>
-        ensures { IfSome result (λ n. (s : Fitter) → IsCacheFor s self.now → n ≡ points_asked s.tables s.levels number) }
+    /// What the glyph with this number counts; None where it is not cached.
+    pub fn counts(&self, number: u16) -> Option<KeptCounts>
+        ensures points { IfSome result (λ n. (s : Fitter) → IsCacheFor s self.now → n.points ≡ points_asked s.tables s.levels number) }
+        ensures deltas { IfSome result (λ n. (s : Fitter) → IsCacheFor s self.now → n.deltas ≡ deltas_asked s.instance s.tables s.levels number) }
     {
         match &self.glyphs {
-            Some(glyphs) => glyphs.points(number),
+            Some(glyphs) => glyphs.counts(number),
             None => None,
         }
     }

@@ -16,13 +16,12 @@ ghost use Rattle.tt_strike_kept.specs.Glyph.{KeptGlyph};
 
 use crate::cache::Cache;
 use crate::glyph::{Glyph, GlyphBody, LargeGlyph, UncutGlyph};
-use crate::outlined::KeptCounts;
 use std::alloc::{AllocError, Global};
 use std::rc::Rc;
 use tt_glyph_pixels::{GlyphPixels, pixels_of};
 use tt_scan::Tape;
 use tt_scan_dropouts::{BoxedRules, Extents, all_counted, edges_counted};
-use tt_strike_kept::{CutGlyph, GlyphFacts, KeptGlyph};
+use tt_strike_kept::{CutGlyph, GlyphFacts, KeptCounts, KeptGlyph};
 
 /// What the bitmap of a glyph may take: its bytes, and the crossings of the edges that it is cut from.
 #[derive(Clone, Copy)]
@@ -112,8 +111,7 @@ impl Glyph {
         }
         let kept = KeptGlyph {
             cut: cut.clone()?,
-            points: counts.points,
-            cost: counts.cost,
+            counts,
         };
         cache.put(self.number, kept);
         Ok(())

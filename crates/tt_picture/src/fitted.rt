@@ -11,7 +11,7 @@ use crate::cache::Cache;
 use crate::cutting::CutLimits;
 use crate::glyph::Glyph;
 use crate::outlined::{
-    MadeOutline, cost_of, counts_of, has_chords_within, points_of, rule_by, rules_for,
+    MadeOutline, cost_of, counts_of, deltas_of, has_chords_within, points_of, rule_by, rules_for,
 };
 use std::alloc::{AllocError, Global};
 use std::marker::Model;
@@ -61,7 +61,7 @@ impl FittedGlyph {
         ensures fault { IfTold font_fault result (λ f. fitted_outline fitter.old number ≡ Err f) }
     {
         if let Some(kept) = cache.find(number) {
-            if fitter.pay(kept.cost) {
+            if fitter.pay(kept.counts.cost) {
                 return Ok(FittedGlyph {
                     number,
                     body: FittedBody::Kept(kept),
@@ -87,11 +87,12 @@ impl FittedGlyph {
         ensures fault { IfTold font_fault result (λ f. fitted_outline fitter.old number ≡ Err f) }
     {
         let points = points_of(fitter, number, cached)?;
+        let deltas = deltas_of(fitter, number, points.is_some())?;
         let work = fitter.work();
         let made = fitter.fit_with_cost(number)?;
         let OutlineAtCost { outline, cost } = made;
         let filled = rules_for(&outline, fitter.dropouts(&outline));
-        let counts = counts_of(points, cost_of(work, cost));
+        let counts = counts_of(points, deltas, cost_of(work, cost));
         let outlined = MadeOutline {
             outline,
             rule: rule_by(work),

@@ -2,6 +2,7 @@
 
 ghost use Rattle.std.specs.Prelude.{◌≡◌, ◌⊎◌, ◌<◌, ◌≤◌, ◌^◌, nat_le, length, IfOk, IfSome, None, Some, Ok};
 ghost use Rattle.tt_fit.specs.Counting.{points_asked};
+ghost use Rattle.tt_fit.specs.DeltaCounting.{deltas_asked};
 ghost use Rattle.tt_fit.specs.Fitting.{Fitter, fitted_outline};
 ghost use Rattle.tt_fit.specs.outline.Outline as shape;
 ghost use Rattle.tt_fit.specs.outline.Outline.{IsOutline};
@@ -21,19 +22,11 @@ use std::alloc::{AllocError, Global};
 use std::marker::Model;
 use tt_arc::{ChordRule, OutlineEdges, edges, points_box};
 use tt_core::POINT_WORK_LIMIT;
-use tt_fit::{DropoutRules, Fitter, Outline};
+use tt_fit::{DELTA_LIMIT, DropoutRules, Fitter, Outline};
 use tt_glyph_pixels::glyph_frame;
 use tt_scan::Tape;
 use tt_scan_dropouts::{BoxedRules, Extents, Rules};
-use tt_strike_kept::GlyphFacts;
-
-/// What a glyph counts of a line's work when it is taken from the cache.
-#[derive(Clone, Copy)]
-pub(crate) struct KeptCounts {
-    pub(crate) points: u64,
-    /// What its programs take.
-    pub(crate) cost: u64,
-}
+use tt_strike_kept::{GlyphFacts, KeptCounts};
 
 /// An outline with its chord rule and the rules for filling its dropouts.
 #[derive(Drop)]
@@ -115,6 +108,21 @@ pub(crate) fn points_of(
     fitter.points(number, POINT_WORK_LIMIT)
 }
 
+/// The deltas of a glyph; None where its points are not counted, or the deltas are too many for a line. Error: Memory.
+pub(crate) fn deltas_of(
+    fitter: &Fitter,
+    number: u16,
+    counted: bool,
+) -> Result<Option<u64>, AllocError>
+    requires { number < fitter.now.tables.glyphs }
+    ensures { IfOk result (λ d. IfSome d (λ n. n ≡ deltas_asked fitter.now.instance fitter.now.tables fitter.now.levels number)) }
+{
+    if !counted {
+        return Ok(None);
+    }
+    fitter.deltas(number, DELTA_LIMIT)
+}
+
 /// The cost of a glyph's programs: 0 where work is not bounded.
 pub(crate) fn cost_of(work: Option<u64>, cost: Option<u64>) -> Option<u64>
     ensures { IfSome result (λ n. ((work ≡ None) × (n ≡ 0)) ⊎ (cost ≡ Some n)) }
@@ -125,13 +133,22 @@ pub(crate) fn cost_of(work: Option<u64>, cost: Option<u64>) -> Option<u64>
     }
 }
 
-/// What a glyph counts, where its points and its cost are known.
-pub(crate) fn counts_of(points: Option<u64>, cost: Option<u64>) -> Option<KeptCounts>
+/// What a glyph counts, where its points, its deltas and its cost are known.
+pub(crate) fn counts_of(
+    points: Option<u64>,
+    deltas: Option<u64>,
+    cost: Option<u64>,
+) -> Option<KeptCounts>
     ensures points { IfSome result (λ n. points ≡ Some n.points) }
+    ensures deltas { IfSome result (λ n. deltas ≡ Some n.deltas) }
     ensures cost { IfSome result (λ n. cost ≡ Some n.cost) }
 {
-    match (points, cost) {
-        (Some(points), Some(cost)) => Some(KeptCounts { points, cost }),
+    match (points, deltas, cost) {
+        (Some(points), Some(deltas), Some(cost)) => Some(KeptCounts {
+            points,
+            deltas,
+            cost,
+        }),
         _ => None,
     }
 }

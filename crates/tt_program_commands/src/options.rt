@@ -86,7 +86,7 @@ pub(crate) const FIT: Argument = Argument {
     defaults: &[FULL],
     help: "How the font's own programs (hinting) are used:\n\
            best      for any font; fills gaps in thin strokes\n\
-           fallback  as full, but a refused glyph is drawn unhinted\n\
+           fallback  as full, but draws a refused glyph unhinted\n\
            none      not at all; outlines are scaled\n\
            full      by the strict rules alone",
     ..PLAIN
@@ -102,7 +102,7 @@ pub(crate) const FACE: Argument = Argument {
     name: "face",
     takes: Takes::Number,
     values: &["N"],
-    help: "The face of the file, counted from 0; 'faces' lists them",
+    help: "A face of the file, counted from 0; 'faces' lists them",
     ..PLAIN
 };
 
@@ -118,7 +118,7 @@ pub(crate) const INSTANCE: Argument = Argument {
 pub(crate) const AXIS: Argument = Argument {
     name: "axis",
     takes: Takes::Text,
-    values: &["TAG=VALUE"],
+    values: &["TAG=N"],
     help: "Values of a variable font's axes, as wght=700,wdth=87.5",
     ..PLAIN
 };
@@ -161,7 +161,7 @@ pub(crate) const HEIGHT: Argument = Argument {
     takes: Takes::OneOf(HEIGHTS),
     values: &["HOW"],
     defaults: &[EXACT],
-    help: "exact, or rounded so that box lines join",
+    help: "exact, or rounded to join box lines",
     ..PLAIN
 };
 
@@ -186,7 +186,7 @@ pub(crate) const OUTPUT: Argument = Argument {
     takes: Takes::Text,
     short: Some('o'),
     values: &["FILE"],
-    help: "The file that takes the picture: PNG if it ends in .png;\n\
+    help: "The file for the picture: PNG if it ends in .png;\n\
            with --lines a file of each line, whose number is %d",
     ..PLAIN
 };

@@ -71,9 +71,9 @@ pub(crate) fn labelling_of<'a, A: Arguments<'a>>(arguments: &A) -> Option<Reques
 
 /// The options `--size SIZE --margin MARGIN --align ALIGN --fit FIT --missing MISSING`, where all are present, and
 /// `--face FACE`, `--width WIDTH` and `--box WxH`, which may be absent, with the rules of `rules_of`; and `--keep-going`,
-/// `--png` and `--output FILE`, without an instance. With `--box` `--size` may be absent too. None where there are no rules, where the words of
-/// the box are of another form, or where the name of a side, of the way to fit, or of the treatment of missing glyphs, is
-/// unknown.
+/// `--png` and `--output FILE`, without an instance. With `--box` `--size` may be absent too. None where there are no
+/// rules, where the words of the box are of another form, or where the name of a side, of the way to fit, or of the
+/// treatment of missing glyphs, is unknown.
 fn label_options_of<'a, A: Arguments<'a>>(arguments: &A) -> Option<LabelOptions<'a>>
     ensures { AsksLabelOptions (A.text arguments.now) (A.IsNumber arguments.now) (A.IsFlag arguments.now) result }
 {

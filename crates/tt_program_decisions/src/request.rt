@@ -109,12 +109,11 @@ impl<'a> Request<'a> {
                 ..
             } => *place = instance,
             Request::Faces { .. } => {}
-            Request::Text { setting, .. }
-            | Request::Lines { setting, .. }
-            | Request::Layout { setting, .. } => setting.instance = instance,
-            Request::Label { options, .. } | Request::Labels { options, .. } => {
-                options.instance = instance;
-            }
+            Request::Text { setting, .. } => setting.instance = instance,
+            Request::Lines { setting, .. } => setting.instance = instance,
+            Request::Layout { setting, .. } => setting.instance = instance,
+            Request::Label { options, .. } => options.instance = instance,
+            Request::Labels { options, .. } => options.instance = instance,
             Request::Bdf(asked) => asked.instance = instance,
         }
         request
@@ -279,8 +278,8 @@ fn ruled_setting_of<'a, A: Arguments<'a>>(arguments: &A, product: Product) -> Op
 }
 
 /// The setting of `--size SIZE --margin MARGIN --fit FIT --missing MISSING` for a product, where all are present, of
-/// `--face FACE`, which may be absent, and of `--keep-going`. Heights are exact, no pair is kerned, and there is no instance. None where the name of the way to fit, or of the treatment of missing glyphs, is
-/// unknown.
+/// `--face FACE`, which may be absent, and of `--keep-going`. Heights are exact, no pair is kerned, and there is no
+/// instance. None where the name of the way to fit, or of the treatment of missing glyphs, is unknown.
 fn setting_of<'a, A: Arguments<'a>>(arguments: &A, product: Product) -> Option<Setting<'a>>
     ensures { AsksPlainSetting (A.text arguments.now) (A.IsNumber arguments.now) (A.IsFlag arguments.now) product result }
 {

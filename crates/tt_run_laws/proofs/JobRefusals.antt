@@ -1,6 +1,7 @@
 -- Which refusals of a job need the font.
 use Rattle.std.proofs.Common.{◌≡◌, ℕ, ◌&&◌, ◌||◌, nat_lt, if◌then◌else◌, Bool, true, false, List, length, map, Option, Result, Ok, Err, inl, inr, ap, refl}
-use Rattle.tt_cmap.specs.Maps.{CharacterMap}
+use Rattle.tt_advances.specs.Found.{advances_tested}
+use Rattle.tt_advances.specs.Lines.{advance_steps}
 use Rattle.tt_face.specs.declared.rules.Opening.{Opening}
 use Rattle.tt_core.specs.declared.fault.JobFault.{JobFault}
 use Rattle.tt_core.specs.declared.fault.JobFault.TheVariants as fault
@@ -10,17 +11,16 @@ use Rattle.tt_core.specs.Limits.{font_limit, margin_limit, point_work_limit, siz
 use Rattle.tt_core.specs.Outcomes.{◌>>=◌}
 use Rattle.tt_fit.specs.declared.programs.Fit.{Fit}
 use Rattle.tt_fit.specs.Fitting.{Fitter}
-use Rattle.tt_line.specs.Layout.{Placement, depth_of, extent_by, laid_at, placement, rise_of, text_glyphs, within_limits}
-use Rattle.tt_line.specs.Steps.{linear_steps}
+use Rattle.tt_line.specs.Layout.{Placement, depth_of, extent_by, laid_at, rise_of, text_glyphs, within_limits}
 use Rattle.tt_line.specs.declared.extent.PictureExtent.{PictureExtent}
 use Rattle.tt_metrics.specs.Metrics.{Metrics}
 use Rattle.tt_picture.specs.Pixels.{Shape}
 use Rattle.tt_strike.specs.Job.{Job, margin_tested, size_tested, tested, text_tested}
-use Rattle.tt_strike.specs.Picture.{drawn, edges_tested, line_shapes, outlines_in, outlines_tested, pictured, pictured_by, placed_by_steps, points_tested, setting_in, shapes_in, steps_in, text_placed}
+use Rattle.tt_strike.specs.Picture.{drawn, edges_tested, line_shapes, outlines_in, outlines_tested, pictured, pictured_by, placed_by_steps, placed_by_units, points_tested, setting_in, shapes_in, steps_in, text_placed}
 use Rattle.tt_strike.specs.Refusals.{Refused, as_font, as_job, job, large, needs_font}
 use Rattle.tt_face.specs.Faces.{Face}
 use Rattle.tt_face.specs.Instance.{Asked, face_at_instance}
-use Rattle.tt_strike.specs.Work.{chord_limit, chords_in, edges_limited, is_bounded, lays_after_glyphs, points_in, work_tested}
+use Rattle.tt_strike.specs.Work.{asked_tested, chord_limit, chords_in, counts_tested, deltas_in, edges_limited, is_bounded, lays_after_glyphs, points_in, work_tested}
 use Rattle.tt_render_streams.specs.File.{as_file}
 use Rattle.tt_render_run.specs.Run.{run_outcome}
 use Rattle.tt_render_run.proofs.Files.{no_image}
@@ -69,6 +69,16 @@ unfolding work_tested
 work_late how limit work j refused =
     of_test true (is_bounded how && nat_lt limit work) fault.WorkLarge j refl (job_alone _ j refused)
 
+-- points first, and then deltas
+counts_late : (how : Fit) (points deltas : ℕ) (j : JobFault) → as_job (counts_tested how points deltas) ≡ Err (job j)
+    → needs_font j ≡ true
+unfolding counts_tested
+counts_late how points deltas j refused =
+    elim (was-err (work_tested how point_work_limit points) _ j (job_alone _ j refused)) [
+      | inl first ↦ work_late _ _ _ j (ap as_job first)
+      | inr later ↦ work_late _ _ _ j (ap as_job later.rest)
+    ]
+
 by_limits : {X : Type 0} (empty tall : Bool) (e : X) (j : JobFault)
     → ◌≡◌ {A = Result X JobFault} (if empty then Err fault.EmptyPicture else (if tall then Err fault.PictureLarge else Ok e))
     (Err j) → needs_font j ≡ true
@@ -89,13 +99,6 @@ laid_late m ppem margin gs steps j refused =
       | inr none ↦ let placed = none.rest in absurd cc
     ]
 
-placement_late : (m : Metrics) (cmap : CharacterMap) (text : List ℕ) (ppem margin : ℕ) (j : JobFault)
-    → placement m cmap text ppem margin ≡ Err j → needs_font j ≡ true
-unfolding placement
-placement_late m cmap text ppem margin j refused =
-    let gs = text_glyphs cmap text in
-    laid_late m ppem margin gs (linear_steps m ppem gs) j refused
-
 edges_late : (s : Fitter) (a : Job) (line : Placement) (glyphs : List Shape) (j : JobFault)
     → as_job (edges_tested s a line glyphs) ≡ Err (job j) → needs_font j ≡ true
 unfolding edges_limited
@@ -109,7 +112,7 @@ edges_late s a line glyphs j refused =
 shapes_late : (s : Fitter) (a : Job) (line : Placement) (j : JobFault) → line_shapes s a line ≡ Err (job j)
     → needs_font j ≡ true
 shapes_late s a line j refused = elim (was-err (as_job (points_tested s a line)) _ (job j) refused) [
-  | inl first ↦ work_late _ _ _ j first
+  | inl first ↦ counts_late _ _ _ j first
   | inr later ↦ elim (was-err (as_font (shapes_in s line)) _ (job j) later.rest) [
     | inl second ↦ absurd (no_font (shapes_in s line) j second)
     | inr made ↦ elim (was-err (as_job (edges_tested s a line made.value)) _ (job j) made.rest) [
@@ -133,8 +136,8 @@ drawn_late face a line j refused = elim (was-err (as_font (setting_in face a)) _
 outlines_late : (s : Fitter) (how : Fit) (gs : List ℕ) (j : JobFault) → outlines_tested s how gs ≡ Err (job j)
     → needs_font j ≡ true
 outlines_late s how gs j refused =
-    elim (was-err (as_job (work_tested how point_work_limit (points_in s gs))) _ (job j) refused) [
-      | inl first ↦ work_late _ _ _ j first
+    elim (was-err (as_job (asked_tested how s gs)) _ (job j) refused) [
+      | inl first ↦ counts_late how (points_in s gs) (deltas_in s gs) j first
       | inr later ↦ absurd (no_font (outlines_in s gs) j later.rest)
     ]
 
@@ -150,13 +153,19 @@ steps_late face a j refused =
       ]
     ]
 
+units_late : (face : Face) (a : Job) (j : JobFault) → placed_by_units face a ≡ Err (job j) → needs_font j ≡ true
+unfolding placed_by_units
+units_late face a j refused =
+    let gs = text_glyphs face.cmap a.text in
+    elim (was-err (as_font (advances_tested face gs)) _ (job j) refused) [
+      | inl first ↦ absurd (no_font (advances_tested face gs) j first)
+      | inr found ↦ laid_late face.metrics a.ppem a.margin gs (advance_steps face a.ppem gs) j (job_alone _ j found.rest)
+    ]
+
 placed_late : (bounded : Bool) (face : Face) (a : Job) (j : JobFault)
-    → (if bounded then placed_by_steps face a else as_job (placement face.metrics face.cmap a.text a.ppem a.margin)) ≡ Err (job j)
-    → needs_font j ≡ true
+    → (if bounded then placed_by_steps face a else placed_by_units face a) ≡ Err (job j) → needs_font j ≡ true
 placed_late true face a j refused = steps_late face a j refused
-placed_late false face a j refused =
-    placement_late face.metrics face.cmap a.text a.ppem a.margin j
-    (job_alone (placement face.metrics face.cmap a.text a.ppem a.margin) j refused)
+placed_late false face a j refused = units_late face a j refused
 
 pictured_late : (face : Face) (a : Job) (j : JobFault) → pictured_by face a ≡ Err (job j) → needs_font j ≡ true
 unfolding pictured_by text_placed

@@ -12,6 +12,7 @@ pub mod Costed
 pub mod OneLine
 pub mod Placed
 pub mod Stepped
+mod CountsLeft
 mod Limited
 mod Reported
 mod Seated

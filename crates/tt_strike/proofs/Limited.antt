@@ -21,13 +21,13 @@ use Rattle.tt_strike.proofs.FirstShape.{first_of}
 use Rattle.tt_strike.specs.Refusals.{as_job, job}
 use Rattle.tt_strike.specs.Work.{chord_limit, crossings_allowed, edges_limited, is_bounded, work_tested}
 
-past_limit : (how : Fit) (limit work : ℕ) → is_bounded how ≡ true → limit < work → work_tested how limit work ≡ Err fault.WorkLarge
+pub past_limit : (how : Fit) (limit work : ℕ) → is_bounded how ≡ true → limit < work → work_tested how limit work ≡ Err fault.WorkLarge
 unfolding work_tested
 past_limit how limit work bounded past =
     let over : nat_lt limit work ≡ true = grind (arith, nat_tests) in
     rw (bounded, over) refl
 
-in_limit : (how : Fit) (limit work : ℕ) → is_bounded how ≡ true → work ≤ limit → work_tested how limit work ≡ Ok tt
+pub in_limit : (how : Fit) (limit work : ℕ) → is_bounded how ≡ true → work ≤ limit → work_tested how limit work ≡ Ok tt
 unfolding work_tested
 in_limit how limit work bounded few =
     let within : nat_lt limit work ≡ false = grind (arith, nat_tests) in

@@ -11,9 +11,13 @@ use Rattle.tt_core.specs.declared.fault.JobFault.TheVariants as job_of
 use Rattle.tt_core.specs.Faults.{Fault}
 use Rattle.tt_core.specs.Limits.{height_limit, width_limit}
 use Rattle.tt_core.specs.Directory.{HasNo}
-use Rattle.tt_core.specs.Outcomes.{draw_font_fault, each}
+use Rattle.tt_core.specs.declared.font_fault.FontFault.{FontFault}
+use Rattle.tt_core.specs.declared.font_fault.FontFault.TheVariants as font
+use Rattle.tt_core.specs.Outcomes.{draw_fault_of_font, draw_font_fault, each, font_fault}
 use Rattle.tt_advances.proofs.Advances.{plain_advances}
 use Rattle.tt_advances.specs.Defects.{IsAdvanceDefect}
+use Rattle.tt_advances.specs.Found.{advances_tested}
+use Rattle.tt_advances.specs.Lines.{advance_line}
 use Rattle.tt_face.specs.Faces.{Face, finds_advances}
 use Rattle.tt_fit.specs.Fitting.{Fitter}
 use Rattle.tt_fit.specs.outline.Outline.{Outline}
@@ -28,12 +32,12 @@ use Rattle.tt_picture.specs.Shapes.{glyph_shape}
 use Rattle.tt_strike.specs.Defects.{IsLineDefect, IsMadeDefect, IsSettingDefect, TellsDefects}
 use Rattle.tt_strike.specs.Fitted.{outlines_made}
 use Rattle.tt_strike.specs.Job.{Job, tested}
-use Rattle.tt_strike.specs.Layouts.{HasLayoutDefect, LayoutDefectBy, found_steps, layout_by, layout_outcome, pens_at, pens_outcome, size_outcome, steps_outcome}
+use Rattle.tt_strike.specs.Layouts.{HasLayoutDefect, LayoutDefectBy, found_line, layout_by, layout_outcome, pens_at, pens_outcome, size_outcome, steps_outcome}
 use Rattle.tt_strike.specs.Picture.{made_line, outlines_tested, setting_in}
 use Rattle.tt_strike.specs.Refusals.{Refused, as_font, as_job, job, refusal}
 use Rattle.tt_strike.specs.Strikes.{SizedFace, job_by}
 use Rattle.tt_strike.specs.Work.{is_bounded, line_fitter}
-use Rattle.tt_strike.proofs.Stopped.{stops, stops_after}
+use Rattle.tt_strike.proofs.Stopped.{stops, stops_after, test_passes, test_stops}
 use Rattle.tt_strike.proofs.Telling.{no_line_defect}
 
 -- a stop at the outlines stops the steps
@@ -56,9 +60,23 @@ pub steps_by_outlines : (face : Face) (a : Job) (s : Fitter) (os : List Outline)
 unfolding steps_outcome
 steps_by_outlines face a s os line bounded there made is = rw (bounded, there, made, is) refl
 
-pub steps_by_units : (face : Face) (a : Job) → is_bounded a.fit ≡ false → steps_outcome face a ≡ found_steps face a
+-- the steps by advances, once these are found, and their stop
+pub steps_by_found : (face : Face) (a : Job) (line : List (ℕ × ℕ)) → is_bounded a.fit ≡ false
+    → found_line face a.ppem (text_glyphs face.cmap a.text) ≡ Ok line → steps_outcome face a ≡ Ok line
 unfolding steps_outcome
-steps_by_units face a other = rw other refl
+steps_by_found face a line other was =
+    let gs = text_glyphs face.cmap a.text in
+    let found = test_passes (advances_tested face gs) (advance_line face a.ppem gs) line was in
+    rw (other, found.0) (ap Ok (sym found.1))
+
+pub found_stop_steps : (face : Face) (a : Job) (e : FontFault) → is_bounded a.fit ≡ false
+    → IfSome (font_fault e) (λ f. found_line face a.ppem (text_glyphs face.cmap a.text) ≡ Err f)
+    → IfSome (refusal (draw_fault_of_font e)) (λ r. steps_outcome face a ≡ Err r)
+unfolding steps_outcome
+found_stop_steps face a (font.Font f) other fails =
+    let gs = text_glyphs face.cmap a.text in
+    rw (other, test_stops (advances_tested face gs) (advance_line face a.ppem gs) f fails) refl
+found_stop_steps face a font.Memory other fails = tt
 
 pub steps_by_advances : (face : Face) (a : Job) → is_bounded a.fit ≡ false → finds_advances face ≡ false
     → steps_outcome face a ≡ Ok (linear_line face.metrics a.ppem (text_glyphs face.cmap a.text))
@@ -152,6 +170,18 @@ pub unbounded_tells : {V : Type 0} (face : Face) (a : Job) (gs : List ℕ) (r : 
     → TellsDefects draw_font_fault (IsAdvanceDefect face gs) r → TellsDefects draw_font_fault (HasLayoutDefect face a gs) r
 unbounded_tells face a gs r other tells =
     subst (λ (b : Bool). TellsDefects draw_font_fault (LayoutDefectBy b face a gs) r) (sym other) tells
+
+-- the defect does not depend on the margin
+told_at : {V : Type 0} (bounded : Bool) (z : SizedFace) (text : List ℕ) (m n : ℕ) (gs : List ℕ) (r : Result V DrawFault)
+    → TellsDefects draw_font_fault (LayoutDefectBy bounded z.face (job_by z text m) gs) r
+    → TellsDefects draw_font_fault (LayoutDefectBy bounded z.face (job_by z text n) gs) r
+told_at true z text m n gs r tells = tells
+told_at false z text m n gs r tells = tells
+
+pub at_margin : {V : Type 0} (z : SizedFace) (text : List ℕ) (m n : ℕ) (gs : List ℕ) (r : Result V DrawFault)
+    → TellsDefects draw_font_fault (HasLayoutDefect z.face (job_by z text m) gs) r
+    → TellsDefects draw_font_fault (HasLayoutDefect z.face (job_by z text n) gs) r
+at_margin z text m n gs r tells = told_at (is_bounded z.fit) z text m n gs r tells
 
 -- a text whose glyphs are made, whatever their pens, has no defect
 pub sound_line : (face : Face) (a : Job) (s : Fitter) (gs : List ℕ) (line : List (ℕ × ℕ)) (shapes : List Shape)

@@ -1,6 +1,6 @@
 -- No part of the standard: the limits of a job's work (profile). It is bounded only with best. Before a glyph is made,
 -- its points and the deltas of the face's instance are counted by headers alone.
-use Rattle.std.specs.Prelude.{◌≡◌, refl, ℕ, ◌+◌, ◌*◌, ◌/◌, min, ◌&&◌, nat_lt, Bool, true, false, if◌then◌else◌, List, Option, Some, None, Result, Ok, Err}
+use Rattle.std.specs.Prelude.{◌≡◌, refl, ℕ, ◌+◌, ◌-◌, ◌*◌, ◌/◌, min, ◌&&◌, nat_le, nat_lt, Bool, true, false, if◌then◌else◌, List, Option, Some, None, Result, Ok, Err}
 use Rattle.std.specs.List.{sum_by}
 use Rattle.tt_core.specs.declared.fault.JobFault.{JobFault}
 use Rattle.tt_core.specs.declared.fault.JobFault.TheVariants as fault
@@ -11,6 +11,7 @@ use Rattle.tt_fit.specs.DeltaCounting.{delta_limit, deltas_asked}
 use Rattle.tt_fit.specs.Fitting.{Fitter, charged_fitter}
 use Rattle.tt_picture.specs.Distinct.{distinct, each_fitter, fitter_after}
 use Rattle.tt_picture.specs.Steps.{glyph_chords}
+use Rattle.tt_strike.specs.declared.work.CountsLeft.{CountsLeft}
 use Rattle.tt_fit.specs.declared.programs.Fit.{Fit}
 use Rattle.tt_fit.specs.declared.programs.Fit.TheVariants as fit
 
@@ -41,13 +42,27 @@ points_in s gs = points_of_all s (distinct gs)
 abbrev pub point_work : ℕ
 point_work = 40
 
--- the deltas of some glyphs at the instance of the face, and those of the control values
+-- the deltas of some glyphs at the instance of the face, and with them those of the control values
+abbrev pub glyph_deltas : Fitter → List ℕ → ℕ
+glyph_deltas s gs = sum_by (deltas_asked s.instance s.tables s.levels) gs
+
 abbrev pub deltas_of_all : Fitter → List ℕ → ℕ
-deltas_of_all s gs = s.control_deltas + sum_by (deltas_asked s.instance s.tables s.levels) gs
+deltas_of_all s gs = s.control_deltas + glyph_deltas s gs
 
 -- those of a line's glyphs, each glyph once
 abbrev pub deltas_in : Fitter → List ℕ → ℕ
 deltas_in s gs = deltas_of_all s (distinct gs)
+
+-- what so many points and deltas leave of the limits, if neither exceeds its own
+abbrev pub counts_left : CountsLeft → ℕ → ℕ → Option CountsLeft
+counts_left most points deltas =
+    if nat_le points most.points && nat_le deltas most.deltas
+    then Some (record { points = most.points - points; deltas = most.deltas - deltas })
+    else None
+
+-- the limits of a job
+abbrev pub all_counts : CountsLeft
+all_counts = record { points = point_work_limit; deltas = delta_limit }
 
 -- each delta takes this much of it
 abbrev pub delta_work : ℕ
@@ -111,6 +126,15 @@ too_little_for_one = refl
 
 none_remains : crossings_allowed (Some 0) ≡ 500000
 none_remains = refl
+
+as_many_as_are_left : counts_left (record { points = 40; deltas = 9 }) 40 9 ≡ Some (record { points = 0; deltas = 0 })
+as_many_as_are_left = refl
+
+a_point_more_than_are_left : counts_left (record { points = 40; deltas = 9 }) 41 0 ≡ None
+a_point_more_than_are_left = refl
+
+a_delta_more_than_are_left : counts_left (record { points = 40; deltas = 9 }) 0 10 ≡ None
+a_delta_more_than_are_left = refl
 
 as_many_deltas_as_may_be : counts_tested fit.Best 1000000 8000000 ≡ Ok tt
 unfolding counts_tested work_tested

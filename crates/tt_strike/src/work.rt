@@ -1,10 +1,9 @@
 //! The work of a job, which is bounded with `Fit::Best`.
 
-ghost use Rattle.std.specs.List.{sum_by};
 ghost use Rattle.std.specs.Prelude.{◌≡◌, ℕ, ◌<◌, ◌≤◌, ◌-◌, ◌*◌, ◌^◌, true, All, List, IfOk, OnOk, Ok};
 ghost use Rattle.tt_core.specs.Limits.{crossing_limit};
 ghost use Rattle.tt_core.specs.Outcomes.{Gives, GivesUnless, each};
-ghost use Rattle.tt_fit.specs.Counting.{counted, left_of, points_asked};
+ghost use Rattle.tt_fit.specs.Counting.{points_asked};
 ghost use Rattle.tt_fit.specs.DeltaCounting.{deltas_asked};
 ghost use Rattle.tt_fit.specs.Fitting.{Fitter, charged_fitter};
 ghost use Rattle.tt_strike.specs.Costs.{cost_of};
@@ -14,7 +13,7 @@ ghost use Rattle.tt_picture.specs.Lines.{HasGlyphsOf};
 ghost use Rattle.tt_picture.specs.Pixels.{Shape};
 ghost use Rattle.tt_picture.specs.Shapes.{crossings_in, glyph_shape};
 ghost use Rattle.tt_strike.specs.Refusals.{as_job, refusal};
-ghost use Rattle.tt_strike.specs.Work.{counts_tested, crossings_allowed, deltas_of_all, is_bounded, points_of_all, work_of_counts, work_tested};
+ghost use Rattle.tt_strike.specs.Work.{all_counts, counts_left, counts_tested, crossings_allowed, deltas_of_all, glyph_deltas, is_bounded, points_of_all, work_of_counts, work_tested};
 
 use std::alloc::AllocError;
 use tt_core::{CROSSING_LIMIT, DrawFault, JobFault, POINT_WORK_LIMIT, WORK_LIMIT};
@@ -46,8 +45,110 @@ pub fn is_bounded(fit: Fit) -> bool
     }
 }
 
+/// What of the limits of points and of deltas is left to a line's glyphs.
+#[derive(Clone, Copy)]
+pub(crate) struct CountsLeft {
+    pub(crate) points: u64,
+    pub(crate) deltas: u64,
+}
+
+impl CountsLeft {
+    /// The rest after so many points and deltas; None where one of them exceeds its limit.
+    #[inline(always)]
+    fn without(self, points: u64, deltas: u64) -> Option<CountsLeft>
+        ensures { result ≡ counts_left self points deltas }
+    {
+        if points > self.points || deltas > self.deltas {
+            return None;
+        }
+        Some(CountsLeft {
+            points: self.points - points,
+            deltas: self.deltas - deltas,
+        })
+    }
+
+    /// The rest after a glyph that is counted by its headers; None where it has more. Its points are counted first: a part
+    /// without deltas has points. Error: out of memory.
+    #[inline(never)]
+    fn without_counted(self, fitter: &Fitter, glyph: u16) -> Result<Option<CountsLeft>, AllocError>
+        requires { glyph < fitter.now.tables.glyphs }
+        ensures { IfOk result (λ left. left ≡ counts_left self (points_asked fitter.now.tables fitter.now.levels glyph) (deltas_asked fitter.now.instance fitter.now.tables fitter.now.levels glyph)) }
+    {
+        let Some(points) = fitter.points(glyph, self.points)? else {
+            return Ok(None);
+        };
+        let Some(deltas) = fitter.deltas(glyph, self.deltas)? else {
+            return Ok(None);
+        };
+        Ok(self.without(points, deltas))
+    }
+
+    /// The rest after a glyph, whose counts the cache has if the glyph is there; None where it has more. Error: out of
+    /// memory.
+    #[inline(always)]
+    fn without_glyph(
+        self,
+        fitter: &Fitter,
+        glyph: u16,
+        cache: &Cache,
+    ) -> Result<Option<CountsLeft>, AllocError>
+        requires known { glyph < fitter.now.tables.glyphs }
+        requires cache { IsCacheFor fitter.now cache.now }
+        ensures { IfOk result (λ left. left ≡ counts_left self (points_asked fitter.now.tables fitter.now.levels glyph) (deltas_asked fitter.now.instance fitter.now.tables fitter.now.levels glyph)) }
+    {
+        match cache.counts(glyph) {
+            Some(counts) => Ok(self.without(counts.points, counts.deltas)),
+            None => self.without_counted(fitter, glyph),
+        }
+    }
+
+    /// The rest after some glyphs; None where they have more. Error: out of memory.
+    fn without_glyphs(
+        self,
+        fitter: &Fitter,
+        glyphs: &[u16],
+        cache: &Cache,
+    ) -> Result<Option<CountsLeft>, AllocError>
+        requires known { All (λ g. g < fitter.now.tables.glyphs) glyphs.now }
+        requires cache { IsCacheFor fitter.now cache.now }
+        ensures { IfOk result (λ left. left ≡ counts_left self (points_of_all fitter.now glyphs.now) (glyph_deltas fitter.now glyphs.now)) }
+    {
+        let mut left = self;
+        for glyph in glyphs {
+            match left.without_glyph(fitter, *glyph, cache)? {
+                Some(fewer) => left = fewer,
+                None => return Ok(None),
+            }
+        }
+        Ok(Some(left))
+    }
+}
+
+/// What the distinct glyphs of a line, and the deltas of the control values, leave of the limits; None where they have
+/// more. Error: out of memory.
+fn asked_left(
+    fitter: &Fitter,
+    numbers: &[u16],
+    cache: &Cache,
+) -> Result<Option<CountsLeft>, AllocError>
+    requires known { All (λ g. g < fitter.now.tables.glyphs) numbers.now }
+    requires cache { IsCacheFor fitter.now cache.now }
+    ensures { IfOk result (λ left. left ≡ counts_left all_counts (points_of_all fitter.now numbers.now) (deltas_of_all fitter.now numbers.now)) }
+{
+    match DELTA_LIMIT.checked_sub(fitter.control_deltas()) {
+        Some(deltas) => {
+            let left = CountsLeft {
+                points: POINT_WORK_LIMIT,
+                deltas,
+            };
+            left.without_glyphs(fitter, numbers, cache)
+        }
+        None => Ok(None),
+    }
+}
+
 /// Charges the points and the deltas of a line's distinct glyphs to its work, which is bounded, before a glyph is made.
-/// The cache has the points of cached glyphs. Headers state the deltas: there are none without an instance. Errors:
+/// The cache has the counts of cached glyphs. Headers state the deltas: there are none without an instance. Errors:
 /// WorkLarge, where points or deltas are too many; Memory.
 #[tactic(auto, unfolding(crate::specs::Work::counts_tested, crate::specs::Work::work_tested))]
 pub fn charge_asked(
@@ -62,13 +163,12 @@ pub fn charge_asked(
     ensures exact { GivesUnless refusal (λ u. u) result (as_job (counts_tested fit (points_of_all fitter.old numbers.now) (deltas_of_all fitter.old numbers.now))) }
     ensures charged { OnOk result (fitter.new ≡ charged_fitter fitter.old (work_of_counts (points_of_all fitter.old numbers.now) (deltas_of_all fitter.old numbers.now))) }
 {
-    let Some(points) = points_left(fitter, numbers, POINT_WORK_LIMIT, cache)? else {
+    let Some(left) = asked_left(fitter, numbers, cache)? else {
         return Err(DrawFault::Job(JobFault::WorkLarge));
     };
-    let Some(deltas) = deltas_left(fitter, numbers, DELTA_LIMIT)? else {
-        return Err(DrawFault::Job(JobFault::WorkLarge));
-    };
-    fitter.charge(POINT_WORK * (POINT_WORK_LIMIT - points) + DELTA_WORK * (DELTA_LIMIT - deltas));
+    let points = POINT_WORK_LIMIT - left.points;
+    let deltas = DELTA_LIMIT - left.deltas;
+    fitter.charge(POINT_WORK * points + DELTA_WORK * deltas);
     Ok(())
 }
 
@@ -80,73 +180,6 @@ pub fn crossings_allowed(left: Option<u64>) -> u64
     match left {
         None => CROSSING_LIMIT,
         Some(left) => CROSSING_LIMIT.min(left / CROSSING_WORK + CROSSINGS_FREE),
-    }
-}
-
-/// The points of a glyph, from the cache if the glyph is there; None where there are more than `most`. Error: out of
-/// memory.
-fn points_of(
-    fitter: &Fitter,
-    glyph: u16,
-    most: u64,
-    cache: &Cache,
-) -> Result<Option<u64>, AllocError>
-    requires known { glyph < fitter.now.tables.glyphs }
-    requires cache { IsCacheFor fitter.now cache.now }
-    ensures { IfOk result (λ n. n ≡ counted most (points_asked fitter.now.tables fitter.now.levels glyph)) }
-{
-    match cache.points(glyph) {
-        Some(points) if points <= most => Ok(Some(points)),
-        Some(_) => Ok(None),
-        None => fitter.points(glyph, most),
-    }
-}
-
-/// What remains of `most` after the points of some glyphs; None where they have more. Error: out of memory.
-fn points_left(
-    fitter: &Fitter,
-    glyphs: &[u16],
-    most: u64,
-    cache: &Cache,
-) -> Result<Option<u64>, AllocError>
-    requires known { All (λ g. g < fitter.now.tables.glyphs) glyphs.now }
-    requires cache { IsCacheFor fitter.now cache.now }
-    ensures { IfOk result (λ left. left ≡ left_of most (sum_by (points_asked fitter.now.tables fitter.now.levels) glyphs.now)) }
-{
-    let mut left = most;
-    for glyph in glyphs {
-        match points_of(fitter, *glyph, left, cache)? {
-            Some(points) => left -= points,
-            None => return Ok(None),
-        }
-    }
-    Ok(Some(left))
-}
-
-/// The rest of `most` after the deltas of some glyphs; None where they have more. Error: out of memory.
-fn glyph_deltas_left(fitter: &Fitter, glyphs: &[u16], most: u64) -> Result<Option<u64>, AllocError>
-    requires known { All (λ g. g < fitter.now.tables.glyphs) glyphs.now }
-    ensures { IfOk result (λ left. left ≡ left_of most (sum_by (deltas_asked fitter.now.instance fitter.now.tables fitter.now.levels) glyphs.now)) }
-{
-    let mut left = most;
-    for glyph in glyphs {
-        match fitter.deltas(*glyph, left)? {
-            Some(deltas) => left -= deltas,
-            None => return Ok(None),
-        }
-    }
-    Ok(Some(left))
-}
-
-/// The rest of `most` after the deltas of the control values and of some glyphs; None where they have more. Error: out
-/// of memory.
-fn deltas_left(fitter: &Fitter, glyphs: &[u16], most: u64) -> Result<Option<u64>, AllocError>
-    requires known { All (λ g. g < fitter.now.tables.glyphs) glyphs.now }
-    ensures { IfOk result (λ left. left ≡ left_of most (deltas_of_all fitter.now glyphs.now)) }
-{
-    match most.checked_sub(fitter.control_deltas()) {
-        Some(left) => glyph_deltas_left(fitter, glyphs, left),
-        None => Ok(None),
     }
 }
 

@@ -30,8 +30,7 @@ blank = record {
   advance_left = pos 256;
   chords = 0;
   crossings = 0;
-  points = 4;
-  cost = 0;
+  counts = record { points = 4; deltas = 0; cost = 0 };
   unfitted = None;
 }
 

@@ -11,15 +11,23 @@ use std::rc::Rc;
 /// Roughly the bytes of a glyph without the words of its bitmap: its place in the cache, and the glyph's owners.
 const PLACE: usize = 224;
 
-/// A cached glyph, and the counts for which a line need not make it anew. Clauses see the glyph itself.
+/// What a glyph counts of a line's work. A cached glyph need not be counted anew.
+#[derive(Clone, Copy)]
+pub struct KeptCounts {
+    /// Its points, those of components too.
+    pub points: u64,
+    /// The work of its deltas at the font's instance, with those of components; 0 by the default.
+    pub deltas: u64,
+    /// The part of a job's work that its programs take.
+    pub cost: u64,
+}
+
+/// A cached glyph with its counts. Clauses see the glyph itself.
 #[derive(Drop)]
 pub struct KeptGlyph {
     /// Its pixels and its facts. The glyph may have other owners.
     pub cut: Rc<CutGlyph>,
-    /// Its points, those of components too.
-    pub points: u64,
-    /// The part of a job's work that its programs take.
-    pub cost: u64,
+    pub counts: KeptCounts,
 }
 
 impl Model for KeptGlyph {
@@ -33,8 +41,7 @@ impl Model for KeptGlyph {
       advance_left = g.cut.value.facts.advance_left;
       chords = g.cut.value.facts.chords;
       crossings = g.cut.value.facts.crossings;
-      points = g.points;
-      cost = g.cost;
+      counts = g.counts;
       unfitted = g.cut.value.facts.unfitted;
     } };
 }
@@ -46,8 +53,7 @@ impl Clone for KeptGlyph {
     fn clone(&self) -> Result<KeptGlyph, AllocError> {
         Ok(KeptGlyph {
             cut: self.cut.clone()?,
-            points: self.points,
-            cost: self.cost,
+            counts: self.counts,
         })
     }
 }

@@ -5,7 +5,7 @@ ghost use Rattle.std.specs.Map.{lookup, remove_entry};
 ghost use Rattle.tt_strike_kept.specs.Glyph.{KeptGlyph};
 ghost use Rattle.tt_strike_kept.specs.Kept.{bytes_in, bytes_of, fitting};
 
-use crate::glyph::KeptGlyph;
+use crate::glyph::{KeptCounts, KeptGlyph};
 use lru::LruCache;
 use std::alloc::{AllocError, Global};
 use std::marker::Model;
@@ -52,11 +52,11 @@ impl KeptGlyphs {
         self.glyphs.peek(&number)?.clone().ok()
     }
 
-    /// The points of the glyph with this number; None where the cache lacks the number.
-    pub fn points(&self, number: u16) -> Option<u64>
-        ensures { IfSome result (λ n. (g : KeptGlyph) × (lookup (nat_eq number) self.now.entries ≡ Some g) × (n ≡ g.points)) }
+    /// The counts of the glyph with this number; None where the cache lacks the number.
+    pub fn counts(&self, number: u16) -> Option<KeptCounts>
+        ensures { IfSome result (λ n. (g : KeptGlyph) × (lookup (nat_eq number) self.now.entries ≡ Some g) × (n ≡ g.counts)) }
     {
-        Some(self.glyphs.peek(&number)?.points)
+        Some(self.glyphs.peek(&number)?.counts)
     }
 
     /// Adds a glyph as the newest, in place of one with its number, and drops the oldest until all fit the limit. A

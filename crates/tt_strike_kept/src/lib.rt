@@ -7,5 +7,5 @@ mod kept;
 pub mod laws;
 
 pub use cut::{CutGlyph, GlyphFacts};
-pub use glyph::KeptGlyph;
+pub use glyph::{KeptCounts, KeptGlyph};
 pub use kept::KeptGlyphs;

@@ -5,7 +5,8 @@
 //! point at 0. Of a glyph that falls back the outline's line has `unfitted TABLE+OFFSET: NUMBER NAME` behind the number,
 //! and a picture has the line `GLYPH unfitted TABLE+OFFSET: NUMBER NAME` before it.
 
-ghost use Rattle.std.specs.Prelude.{◌≡◌, ◌<◌, IfSome};
+ghost use Rattle.std.specs.Prelude.{◌≡◌, ◌≤◌, ◌<◌, IfSome};
+ghost use Rattle.tt_core.specs.Limits.{size_limit};
 ghost use Rattle.tt_scan_edges.specs.Winding.{FrameFits};
 
 use crate::tables::{face_at, note_glyph, programs_of, tables_of};
@@ -44,7 +45,10 @@ pub fn put_table(alloc: Global, line: &mut Line, font: &[u8]) {
 }
 
 /// Puts the outlines at the values of axes that the next word gives.
-fn put_instance(alloc: Global, line: &mut Line, font: &[u8], size: u32, fit: Fit) {
+fn put_instance(alloc: Global, line: &mut Line, font: &[u8], size: u32, fit: Fit)
+    requires low { 1 ≤ size }
+    requires high { size ≤ size_limit }
+{
     let Ok(Some(axes)) = read_axis_values(alloc, line.word().as_bytes()) else {
         line.refuse("no such axes");
         return;
@@ -57,7 +61,10 @@ fn put_instance(alloc: Global, line: &mut Line, font: &[u8], size: u32, fit: Fit
 }
 
 /// Puts the outlines of a face. The word is the first about its glyphs.
-fn put_face(alloc: Global, line: &mut Line, face: &Face, size: u32, fit: Fit, word: &str) {
+fn put_face(alloc: Global, line: &mut Line, face: &Face, size: u32, fit: Fit, word: &str)
+    requires low { 1 ≤ size }
+    requires high { size ≤ size_limit }
+{
     let (Ok(glyphs), Ok(programs)) = (face.glyf(), face.programs()) else {
         line.refuse("the font is refused");
         return;

@@ -5,4 +5,4 @@ pub returns-clause-run : goal.returns-clause-run
 returns-clause-run c = written-whole c.fonts_are_whole.ensures.picture
 
 pub returns-clause-map : goal.returns-clause-map
-returns-clause-map c = mapped-whole c.instances_are_whole.ensures.whole c.found_advances_are_whole.ensures
+returns-clause-map c = mapped-whole c.instances_are_whole.ensures c.found_advances_are_whole.ensures

@@ -131,13 +131,20 @@ impl Rules {
     }
 }
 
-/// The instance that the next words are: the count of axes, and the place on each in 1/65536.
+/// The place on an axis that the next word is, in 1/65536.
+fn place_in(line: &mut Line) -> i32
+    ensures { unsigned_abs result ≤ 65536 }
+{
+    line.number(-65_536, 65_536) as i32
+}
+
+/// The instance that the next words are: the count of axes, and the place on each.
 pub(crate) fn instance_in(line: &mut Line) -> Instance {
     let mut instance = Instance::none();
     for _ in 0..line.natural(1, 64) {
-        let coordinate = line.number(-65_536, 65_536) as i32;
+        let place = place_in(line);
         if instance.coordinates().len() < 64 {
-            instance.push(coordinate);
+            instance.push(place);
         }
     }
     instance

@@ -71,7 +71,8 @@ found_then c =
     let face = c.sized.inside.source.face.now in
     let found = rows_found face c.sized.inside.source.ppem (its_units c.in_ok-units.units.items) (its_units c.in_ok-lines.lines.items)
     (rw c.deref.ensures.value at c.in_ok-lines.ensures.exact) in
-    (rw (units_then c.In_ok-units) at found.0, found.1)
+    let units : its_units c.in_ok-units.units.items ≡ text_units face.cmap c.args.text.now = rw (← c.sized.view_is) at c.in_ok-units.ensures.exact in
+    (rw units at found.0, found.1)
 
 pub returns-in_err-lines-clause-stops : goal.returns-in_err-lines-clause-stops
 returns-in_err-lines-clause-stops c =

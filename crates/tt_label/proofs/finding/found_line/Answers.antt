@@ -39,17 +39,19 @@ put_unit_steps-requires-clause-units c =
     let are = rw (← c.requires.metrics, c.deref_mut.ensures.value) at c.in_ok-put.ensures.units in
     rw (c.deref_mut-2.ensures.value, found_then all.In_ok-put, ← are) c.in_ok-put.ensures.bound
 
-steps_then : (c : After-put_unit_steps) → (with_items (with_items c.args.line c.put.new.line) c.put_unit_steps.new.line).items
+steps_then : (c : After-put_unit_steps) → (with_items c.args.line c.put.new.line).items
+    ≡ map (λ g. (g, or_zero (glyph_units c.args.found.now.face.instance c.args.metrics.now c.args.found.now.tables g))) (map (λ (g : ℕ × ℕ). g.0) c.args.line.items)
+    → (with_items (with_items c.args.line c.put.new.line) c.put_unit_steps.new.line).items
     ≡ stepped c.args.metrics.now (step_by_units c.args.metrics.now c.args.ppem
     (λ g. or_zero (glyph_units c.args.found.now.face.instance c.args.metrics.now c.args.found.now.tables g))) (map (λ (g : ℕ × ℕ). g.0) c.args.line.items)
-steps_then c =
+steps_then c found =
     let z = c.args.found.now in
     let m = c.args.metrics.now in
     let gs = map (λ (g : ℕ × ℕ). g.0) c.args.line.items in
     let units : ℕ → ℕ = λ g. or_zero (glyph_units z.face.instance m z.tables g) in
     let both : ℕ → ℕ × ℕ = λ g. (g, units g) in
     let step = step_by_units m c.args.ppem units in
-    let line : c.deref_mut-2.result.now ≡ map both gs = c.deref_mut-2.ensures.value ∙ found_then c.In_ok-put in
+    let line : c.deref_mut-2.result.now ≡ map both gs = c.deref_mut-2.ensures.value ∙ found in
     let numbers : map (λ (g : ℕ × ℕ). g.0) c.deref_mut-2.result.now ≡ gs =
     ap (λ (ps : List (ℕ × ℕ)). map (λ (g : ℕ × ℕ). g.0) ps) line ∙ numbers_beside gs units in
     let beside : c.deref_mut-2.result.now ≡ map both (map (λ (g : ℕ × ℕ). g.0) c.deref_mut-2.result.now) =
@@ -65,4 +67,4 @@ pub returns-clause-exact : goal.returns-clause-exact
 returns-clause-exact c =
     let all = goal.at.returns-clause-exact c in
     let tested = rw (← c.requires.metrics, c.deref_mut.ensures.value) at c.in_ok-put.ensures.exact in
-    rw (tested, steps_then all.After-put_unit_steps) refl
+    rw (tested, steps_then all.After-put_unit_steps (found_then all.In_ok-put)) refl

@@ -1,4 +1,4 @@
-use Rattle.std.proofs.Common.{◌≡◌, ◌∙◌, ℕ, ◌<◌, List, [], ◌∷◌, Ok, append-nil, append_assoc, length, map, refl, sym, ap, arith}
+use Rattle.std.proofs.Common.{◌≡◌, ◌∙◌, ℕ, ◌<◌, true, List, [], ◌∷◌, Ok, append-nil, append_assoc, length, map, refl, sym, ap, arith}
 use Rattle.std.proofs.lemmas.List.{map_push, nil_from_length}
 use Rattle.std.proofs.lemmas.List.Elements.{All-head, All-tail}
 use Rattle.std.proofs.lemmas.Result.{err_from_is_err_and}
@@ -8,11 +8,12 @@ use Rattle.tt_advances.proofs.Advances.{found_whole}
 use Rattle.tt_advances.proofs.Finding.{after_test, before_value, line_alike, lists_pass, lists_stop, tables_refuse, tables_tell, test_tells, tested_by, then_value}
 use Rattle.tt_advances.specs.Found.{advances_tested, all_found, glyph_units}
 use Rattle.tt_advances.specs.Lines.{advance_step}
+use Rattle.tt_face.specs.Faces.{Face, finds_advances, glyphs_in}
+use Rattle.tt_glyf.specs.Loca.{Glyf}
 use Rattle.tt_label.specs.Fitted.{glyphs_in as line_glyphs, with_steps}
 use Rattle.tt_label.proofs.FoundLines.{Line, items_of, line_and_others}
 use Rattle.tt_line.specs.Steps.{stepped}
 use Rattle.tt_metrics.specs.Metrics.{glyphs_of}
-use Rattle.tt_label.proofs.finding.found_lines.Goals.{In_None}
 use Rattle.tt_label.proofs.finding.found_lines.Goals as goal
 
 pub found_line-requires-clause-metrics : goal.found_line-requires-clause-metrics
@@ -103,13 +104,13 @@ returns-in_err-found_line-clause-defects c =
     (line_glyphs (items_of left)) e was.tested (rw steps (line_and_others line.items (items_of left))) one in
     rw (p.1, p.2) (test_tells face at.found.tables gs e c.requires.finds was.there stops)
 
--- all advances are found
-tested_then : (c : In_None) → advances_tested c.args.face.now (line_glyphs (items_of c.args.lines.items)) ≡ Ok tt
-tested_then c =
-    let at = c.loop-line in
-    let face = c.args.face.now in
-    let none = nil_from_length (into_iter_items at.line-iterator) (sym at.invariant.count ∙ c.in-None.ensures.steps.0) in
-    tested_by face at.found.tables (line_glyphs (items_of c.args.lines.items)) c.requires.finds at.invariant.there ∙ rw none at at.invariant.tested
+-- all advances are found, where no line is left
+tested_all : (face : Face) (t : Glyf) (lines left : List Line) → finds_advances face ≡ true → glyphs_in face ≡ Ok t → left ≡ []
+    → all_found (glyph_units face.instance face.metrics t) (line_glyphs (items_of lines))
+    ≡ all_found (glyph_units face.instance face.metrics t) (line_glyphs (items_of left))
+    → advances_tested face (line_glyphs (items_of lines)) ≡ Ok tt
+tested_all face t lines left finds there none tested =
+    tested_by face t (line_glyphs (items_of lines)) finds there ∙ rw none at tested
 
 pub returns-clause-exact : goal.returns-clause-exact
 returns-clause-exact c =
@@ -119,8 +120,15 @@ returns-clause-exact c =
     let all = rw none at at.invariant.steps in
     let made : items_of at.made.items ≡ with_steps face.metrics (advance_step face c.args.ppem) (items_of c.args.lines.items) =
     sym (append-nil (items_of at.made.items)) ∙ all in
-    rw (tested_then (goal.at.returns-clause-exact c).In_None, made) refl
+    let tested = tested_all face at.found.tables c.args.lines.items (into_iter_items at.line-iterator) c.requires.finds at.invariant.there none
+    at.invariant.tested in
+    rw (tested, made) refl
 
 pub returns-clause-defects : goal.returns-clause-defects
 returns-clause-defects c =
-    found_whole c.args.face.now (line_glyphs (items_of c.args.lines.items)) (tested_then (goal.at.returns-clause-defects c).In_None)
+    let at = c.loop-line in
+    let face = c.args.face.now in
+    let none = nil_from_length (into_iter_items at.line-iterator) (sym at.invariant.count ∙ c.in-None.ensures.steps.0) in
+    found_whole face (line_glyphs (items_of c.args.lines.items))
+    (tested_all face at.found.tables c.args.lines.items (into_iter_items at.line-iterator) c.requires.finds at.invariant.there none
+    at.invariant.tested)

@@ -11,21 +11,16 @@ use Rattle.tt_label.proofs.FoundLines.{row_alike}
 use Rattle.tt_label.proofs.UnitGlyphs.{its_units}
 use Rattle.tt_label_rows.specs.Units.{all_glyphs, stepped_units, unit_glyphs}
 use Rattle.tt_rows.specs.declared.unit.RowUnit.{RowUnit}
-use Rattle.tt_label.proofs.finding.found_rows.Goals.{After-line-item}
 use Rattle.tt_label.proofs.finding.found_rows.Goals as goal
 
 abbrev Row : Type 0
 Row = Vec RowUnit Global
 
 -- the line that is next
-next_is : (c : After-line-item) → its_units (drop c.loop-line.line-index c.args.lines.now)
-    ≡ c.line-item.result.items ∷ its_units (drop (c.loop-line.line-index + 1) c.args.lines.now)
-next_is c =
-    let lines = c.args.lines.now in
-    let i = c.loop-line.line-index in
-    let line = c.line-item.result in
-    let here : get_or lines i line ≡ line = sym c.line-item.is in
-    rw (drop_more lines i line c.loop-line-test.true, here) refl
+next_is : (lines : List Row) (i : ℕ) (line : Row) → i < length lines → line ≡ get_or lines i line
+    → its_units (drop i lines) ≡ line.items ∷ its_units (drop (i + 1) lines)
+next_is lines i line below is =
+    let here : get_or lines i line ≡ line = sym is in rw (drop_more lines i line below, here) refl
 
 pub found_row-requires-clause-metrics : goal.found_row-requires-clause-metrics
 found_row-requires-clause-metrics c = rw (c.metrics.ensures, c.loop-line.invariant.face) refl
@@ -52,7 +47,7 @@ loop-line-preserved c =
     let gs = unit_glyphs line.items in
     let step = stepped_units face.metrics (advance_step face c.args.ppem) in
     let found = glyph_units face.instance face.metrics at.found.tables in
-    let next = next_is (goal.at.loop-line-preserved c).After-line-item in
+    let next = next_is lines i line below c.line-item.is in
     let passes = after_test (all_found found gs) _ made.items (rw (c.metrics.ensures, was.face, c.deref.ensures.value) at c.in_ok-found_row.ensures.exact) in
     let own : made.items ≡ step line.items = passes.1 ∙ row_alike face at.found.tables c.args.ppem line.items was.there in
     rw c.in_ok-found_row.ensures.same (record {
@@ -96,7 +91,7 @@ returns-in_err-found_row-clause-exact c =
     let found = glyph_units face.instance face.metrics at.found.tables in
     let gs = unit_glyphs c.line-item.result.items in
     let e = c.in_err-found_row.field-0.0 in
-    let next = next_is (goal.at.returns-in_err-found_row-clause-exact c).After-line-item in
+    let next = next_is lines at.line-index c.line-item.result c.loop-line-test.true c.line-item.is in
     let one = before_value (all_found found gs) _ e (rw (c.metrics.ensures, was.face, c.deref.ensures.value) at c.in_err-found_row.ensures.exact) in
     let stops = lists_stop found (all_found found all) (all_glyphs (its_units (drop at.line-index lines))) gs
     (all_glyphs (its_units (drop (at.line-index + 1) lines))) e was.tested (rw next refl) one in
@@ -113,7 +108,7 @@ returns-in_err-found_row-clause-defects c =
     let found = glyph_units face.instance face.metrics at.found.tables in
     let gs = unit_glyphs c.line-item.result.items in
     let e = c.in_err-found_row.field-0.0 in
-    let next = next_is (goal.at.returns-in_err-found_row-clause-defects c).After-line-item in
+    let next = next_is lines at.line-index c.line-item.result c.loop-line-test.true c.line-item.is in
     let one = before_value (all_found found gs) _ e (rw (c.metrics.ensures, was.face, c.deref.ensures.value) at c.in_err-found_row.ensures.exact) in
     let stops = lists_stop found (all_found found all) (all_glyphs (its_units (drop at.line-index lines))) gs
     (all_glyphs (its_units (drop (at.line-index + 1) lines))) e was.tested (rw next refl) one in

@@ -8,6 +8,7 @@ use Rattle.tt_program_faces.proofs.variations.push_place.Goals as goal
 pub returns : goal.returns
 returns c =
     let tag = tag_words (axis_of c.args.fvar.now c.args.i).tag in
-    c.in_ok-push_value.ensures
+    let put = simp to_z-of_z at c.in_ok-push_value.ensures in
+    put
     ∙ rw (c.in_ok-push_tag.ensures, c.in_ok-push_comma.ensures, c.axis.ensures.exact)
-    (simp to_z-of_z (place-more c.args.lines.now.items (comma c.args.i) tag c.place.ensures))
+    (place-more c.args.lines.now.items (comma c.args.i) tag c.place.ensures)

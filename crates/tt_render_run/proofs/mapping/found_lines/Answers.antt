@@ -10,7 +10,7 @@ use Rattle.tt_line.specs.Layout.{text_glyphs}
 use Rattle.tt_metrics.specs.Metrics.{glyphs_of}
 use Rattle.tt_render_run.specs.MapLines.{map_line}
 use Rattle.tt_render_run.proofs.Mapped.{found_next, found_stops, none_left, tested_lines, units_found, untested_lines}
-use Rattle.tt_render_run.proofs.mapping.found_lines.Goals.{After-glyph_of_unit-number, In_None}
+use Rattle.tt_render_run.proofs.mapping.found_lines.Goals.{After-glyph_of_unit-number, In-None}
 use Rattle.tt_render_run.proofs.mapping.found_lines.Goals as goal
 
 -- the glyph of a unit
@@ -90,7 +90,7 @@ returns-in_err-units-clause-defects c =
     rw (p.1, p.2) (test_tells face t gs e c.requires was.there stops)
 
 -- all advances are found
-tested_then : (c : In_None) → advances_tested c.args.face.now (text_glyphs c.args.face.now.cmap c.args.text.now) ≡ Ok tt
+tested_then : (c : In-None) → advances_tested c.args.face.now (text_glyphs c.args.face.now.cmap c.args.text.now) ≡ Ok tt
 tested_then c =
     let face = c.args.face.now in
     let was = c.loop-unit.invariant in
@@ -105,10 +105,10 @@ returns-clause-exact c =
     let face = c.args.face.now in
     let us = units_by face.cmap (chars c.args.text.now) in
     let all = at-the-end c.loop-unit.yielded c.loop-unit.unit-iterator us c.in-None.ensures.steps.0 c.loop-unit.invariant.split in
-    tested_lines face c.args.text.now c.loop-unit.lines.items (tested_then (goal.at.returns-clause-exact c).In_None)
+    tested_lines face c.args.text.now c.loop-unit.lines.items (tested_then (goal.at.returns-clause-exact c).In-None)
     (rw (← all) c.loop-unit.invariant.lines)
 
 pub returns-clause-defects : goal.returns-clause-defects
 returns-clause-defects c =
     let face = c.args.face.now in
-    found_whole face (text_glyphs face.cmap c.args.text.now) (tested_then (goal.at.returns-clause-defects c).In_None)
+    found_whole face (text_glyphs face.cmap c.args.text.now) (tested_then (goal.at.returns-clause-defects c).In-None)

@@ -1,9 +1,12 @@
 use Rattle.std.proofs.Common.{◌≡◌, refl}
 use Rattle.tt_fit.proofs.Falling.{unbounded-stays}
 use Rattle.tt_fit.specs.outline.Views.{outline_of}
-use Rattle.tt_picture.proofs.CutGlyphs.{counts_made, counts_points}
+use Rattle.tt_fit.specs.Counting.{points_asked}
+use Rattle.tt_fit.specs.DeltaCounting.{deltas_asked}
+use Rattle.tt_picture.proofs.CutGlyphs.{counts_are, counts_made}
 use Rattle.tt_picture.proofs.Turns.{same_dropouts}
 use Rattle.tt_picture.proofs.fitted.FittedGlyph.made.Goals as goal
+use Rattle.tt_strike_kept.specs.declared.glyph.KeptCounts.{KeptCounts}
 
 pub returns-clause-fitted : goal.returns-clause-fitted
 returns-clause-fitted c =
@@ -26,8 +29,10 @@ returns-clause-fitted c =
         ) refl;
         unfitted = made.unfitted;
         fits = c.rules_for-filled.ensures.fits;
-        points = counts_points s n c.counts_of-counts.result c.in_ok-points.points c.in_ok-points.ensures
-            c.counts_of-counts.ensures.points;
+        points = counts_are (λ (k : KeptCounts). k.points) (points_asked s.tables s.levels n) c.counts_of-counts.result
+            c.in_ok-points.points c.in_ok-points.ensures c.counts_of-counts.ensures.points;
+        deltas = counts_are (λ (k : KeptCounts). k.deltas) (deltas_asked s.instance s.tables s.levels n)
+            c.counts_of-counts.result c.in_ok-deltas.deltas c.in_ok-deltas.ensures c.counts_of-counts.ensures.deltas;
         made = counts_made unbounded-stays s n o c.in_ok-made.made.outline.unfitted c.counts_of-counts.result
             c.cost_of.result c.in_ok-made.made.cost made.exact made.unfitted made.cost
             (rw c.work-work.ensures at c.cost_of.ensures) c.counts_of-counts.ensures.cost;

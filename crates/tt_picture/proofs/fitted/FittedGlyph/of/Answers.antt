@@ -17,9 +17,9 @@ returns-then-pay-clause-fitted c =
     let n = c.args.number in
     let k = c.in-Some.kept in
     let is = found (goal.at.returns-then-pay-clause-fitted c).After-pay in
-    let same : c.kept.inside.cost ≡ k.cost = ap (λ (k : KeptGlyph). k.cost) c.kept.view_is in
-    let cost : IsMadeFor s n c.kept.inside.cost is.shape k.unfitted =
-    same_cost s n c.kept.inside.cost k.cost is.shape k.unfitted same is.made in
+    let same : c.kept.inside.counts.cost ≡ k.counts.cost = ap (λ (k : KeptGlyph). k.counts.cost) c.kept.view_is in
+    let cost : IsMadeFor s n c.kept.inside.counts.cost is.shape k.unfitted =
+    same_cost s n c.kept.inside.counts.cost k.counts.cost is.shape k.unfitted same is.made in
     let made : IsMade s n is.shape k.unfitted c.pay.new.self = c.pay.ensures.made c.if-pay.true n is.shape k.unfitted cost in
     record { shape = is.shape; outline = made.outline; body = paid_is_fitted s c.pay.new.self n k is made }
 
@@ -29,9 +29,9 @@ returns-then-pay-clause-after c =
     let n = c.args.number in
     let k = c.in-Some.kept in
     let is = found (goal.at.returns-then-pay-clause-after c).After-pay in
-    let same : c.kept.inside.cost ≡ k.cost = ap (λ (k : KeptGlyph). k.cost) c.kept.view_is in
-    let cost : IsMadeFor s n c.kept.inside.cost is.shape k.unfitted =
-    same_cost s n c.kept.inside.cost k.cost is.shape k.unfitted same is.made in
+    let same : c.kept.inside.counts.cost ≡ k.counts.cost = ap (λ (k : KeptGlyph). k.counts.cost) c.kept.view_is in
+    let cost : IsMadeFor s n c.kept.inside.counts.cost is.shape k.unfitted =
+    same_cost s n c.kept.inside.counts.cost k.counts.cost is.shape k.unfitted same is.made in
     sym (c.pay.ensures.made c.if-pay.true n is.shape k.unfitted cost).after
 
 -- nothing was paid

@@ -15,8 +15,7 @@ returns-clause-valid c = λ s is.
       advance_left = cut.facts.advance_left;
       chords = cut.facts.chords;
       crossings = cut.facts.crossings;
-      points = i.points;
-      cost = i.cost;
+      counts = i.counts;
       unfitted = cut.facts.unfitted;
     } in
     let own : IsFitted s (record { number = c.args.number; body = fitted.kept k }) = rw c.kept.view_is is in

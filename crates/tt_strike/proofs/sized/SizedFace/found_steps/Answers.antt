@@ -56,14 +56,16 @@ put_unit_steps-requires-clause-units c =
 
 -- and then their steps
 steps_then : (c : After-put_unit_steps)
+    → (with_items c.in_ok-steps.steps c.find_units.new.line).items
+    ≡ map (λ g. (g, units_of c.args.self.now.face g)) (text_glyphs c.args.self.now.face.cmap c.args.text.now)
     → (with_items (with_items c.in_ok-steps.steps c.find_units.new.line) c.put_unit_steps.new.line).items
     ≡ advance_line c.args.self.now.face c.args.self.now.ppem (text_glyphs c.args.self.now.face.cmap c.args.text.now)
-steps_then c =
+steps_then c found =
     let z = c.args.self.now in
     let gs = text_glyphs z.face.cmap c.args.text.now in
     let step = advance_step z.face z.ppem in
     let both : ℕ → ℕ × ℕ = λ g. (g, units_of z.face g) in
-    let line : c.deref_mut-2.result.now ≡ map both gs = c.deref_mut-2.ensures.value ∙ found_then c.In_ok-find_units in
+    let line : c.deref_mut-2.result.now ≡ map both gs = c.deref_mut-2.ensures.value ∙ found in
     let numbers : map (λ (g : ℕ × ℕ). g.0) c.deref_mut-2.result.now ≡ gs =
     ap (λ (ps : List (ℕ × ℕ)). map (λ (g : ℕ × ℕ). g.0) ps) line ∙ numbers_beside gs (units_of z.face) in
     let beside : c.deref_mut-2.result.now ≡ map both (map (λ (g : ℕ × ℕ). g.0) c.deref_mut-2.result.now) =
@@ -80,14 +82,14 @@ pub returns-clause-exact : goal.returns-clause-exact
 returns-clause-exact c =
     let all = goal.at.returns-clause-exact c in
     let tested = rw (c.face-face.ensures, c.deref_mut.ensures.value, c.in_ok-steps.ensures.glyphs) at c.in_ok-find_units.ensures.exact in
-    rw (steps_then all.After-put_unit_steps, tested) refl
+    rw (steps_then all.After-put_unit_steps (found_then all.In_ok-find_units), tested) refl
 
 pub returns-clause-glyphs : goal.returns-clause-glyphs
 returns-clause-glyphs c =
     let all = goal.at.returns-clause-glyphs c in
     let z = c.args.self.now in
     let gs = text_glyphs z.face.cmap c.args.text.now in
-    rw (steps_then all.After-put_unit_steps) (firsts z.face.metrics (advance_step z.face z.ppem) gs)
+    rw (steps_then all.After-put_unit_steps (found_then all.In_ok-find_units)) (firsts z.face.metrics (advance_step z.face z.ppem) gs)
 
 pub returns-clause-known : goal.returns-clause-known
 returns-clause-known c =
@@ -97,7 +99,7 @@ returns-clause-known c =
     let m = z.face.metrics in
     let step = advance_step z.face z.ppem in
     let line = c.in_ok-steps.steps.items in
-    rw (steps_then all.After-put_unit_steps)
+    rw (steps_then all.After-put_unit_steps (found_then all.In_ok-find_units))
     (known_alike (glyphs_of m) line (stepped m step gs) (c.in_ok-steps.ensures.glyphs ∙ sym (firsts m step gs)) c.in_ok-steps.ensures.known)
 
 pub returns-clause-few : goal.returns-clause-few
@@ -106,7 +108,7 @@ returns-clause-few c =
     let z = c.args.self.now in
     let gs = text_glyphs z.face.cmap c.args.text.now in
     let many : length c.in_ok-steps.steps.items ≡ length gs = sym (length-map c.in_ok-steps.steps.items (λ (g : ℕ × ℕ). g.0)) ∙ ap length c.in_ok-steps.ensures.glyphs in
-    rw (steps_then all.After-put_unit_steps, length-stepped z.face.metrics (advance_step z.face z.ppem) gs, ← many) c.in_ok-steps.ensures.few
+    rw (steps_then all.After-put_unit_steps (found_then all.In_ok-find_units), length-stepped z.face.metrics (advance_step z.face z.ppem) gs, ← many) c.in_ok-steps.ensures.few
 
 pub returns-clause-defects : goal.returns-clause-defects
 returns-clause-defects c =

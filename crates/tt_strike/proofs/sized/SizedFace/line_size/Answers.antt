@@ -1,6 +1,7 @@
-use Rattle.std.proofs.Common.{◌≡◌, ◌∙◌, ℕ, Bool, true, false, ◌||◌, List, Ok, refl}
+use Rattle.std.proofs.Common.{◌≡◌, ◌∙◌, ℕ, Bool, true, false, ◌||◌, Global, List, Vec, Result, Ok, Err, refl}
 use Rattle.std.proofs.lemmas.Result.{err_from_is_err_and}
 use Rattle.tt_advances.proofs.Advances.{plain_sound}
+use Rattle.tt_core.specs.declared.draw_fault.DrawFault.{DrawFault}
 use Rattle.tt_face.specs.Faces.{Face, finds_advances}
 use Rattle.tt_line.specs.Layout.{text_glyphs}
 use Rattle.tt_fit.specs.declared.programs.Fit.{Fit}
@@ -8,7 +9,7 @@ use Rattle.tt_strike.specs.Job.{Job, tested}
 use Rattle.tt_strike.specs.Layouts.{steps_outcome}
 use Rattle.tt_strike.specs.Strikes.{SizedFace, job_by}
 use Rattle.tt_strike.specs.Work.{is_bounded}
-use Rattle.tt_strike.proofs.TextSteps.{no_defect_of_job, size_by_its_advances, size_is, steps_stop_size, test_stops_size}
+use Rattle.tt_strike.proofs.TextSteps.{at_margin, no_defect_of_job, size_by_its_advances, size_is, steps_stop_size, test_stops_size}
 use Rattle.tt_strike.proofs.Stopped.{tested_at}
 use Rattle.tt_strike.proofs.sized.SizedFace.line_size.Goals.{In_ok-test_text}
 use Rattle.tt_strike.proofs.sized.SizedFace.line_size.Goals as goal
@@ -82,7 +83,10 @@ returns-in_err-steps-clause-memory c =
 pub returns-in_err-steps-clause-defects : goal.returns-in_err-steps-clause-defects
 returns-in_err-steps-clause-defects c =
     let p = err_from_is_err_and c.from_residual-in_err-steps.result c.from_residual-in_err-steps.ensures.1 in
-    rw (p.1, p.2, ← c.self.view_is) (rw (← c.self.view_is) at c.in_err-steps.ensures.defects)
+    let z : SizedFace = record { face = c.self.inside.source.face.now; ppem = c.self.inside.source.ppem; fit = c.self.inside.source.fit } in
+    let r : Result (Vec (ℕ × ℕ) Global) DrawFault = Err c.in_err-steps.field-0.0 in
+    rw (p.1, p.2, ← c.self.view_is) (at_margin z c.args.text.now 0 c.args.margin (text_glyphs z.face.cmap c.args.text.now) r
+    (rw (← c.self.view_is) at c.in_err-steps.ensures.defects))
 
 pub returns-in_err-size_by_steps-clause-exact : goal.returns-in_err-size_by_steps-clause-exact
 unfolding steps_outcome
@@ -113,7 +117,10 @@ returns-then-reads_glyphs-clause-exact c =
 
 pub returns-then-reads_glyphs-clause-defects : goal.returns-then-reads_glyphs-clause-defects
 returns-then-reads_glyphs-clause-defects c =
-    rw (← c.self.view_is) (rw (← c.self.view_is) at c.in_ok-steps.ensures.defects)
+    let z : SizedFace = record { face = c.self.inside.source.face.now; ppem = c.self.inside.source.ppem; fit = c.self.inside.source.fit } in
+    let r : Result (Vec (ℕ × ℕ) Global) DrawFault = Ok c.in_ok-steps.steps in
+    rw (← c.self.view_is) (at_margin z c.args.text.now 0 c.args.margin (text_glyphs z.face.cmap c.args.text.now) r
+    (rw (← c.self.view_is) at c.in_ok-steps.ensures.defects))
 
 pub returns-in_err-size_by_advances-clause-exact : goal.returns-in_err-size_by_advances-clause-exact
 returns-in_err-size_by_advances-clause-exact c =

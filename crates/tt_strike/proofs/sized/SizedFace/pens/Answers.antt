@@ -8,7 +8,7 @@ use Rattle.tt_strike.specs.declared.layouts.TextPens.{TextPens}
 use Rattle.tt_strike.specs.Job.{Job, tested}
 use Rattle.tt_strike.specs.Layouts.{HasLayoutDefect, steps_outcome}
 use Rattle.tt_strike.specs.Strikes.{SizedFace, job_by}
-use Rattle.tt_strike.proofs.TextSteps.{layout_is, no_defect_of_job, pens_are, size_stops_pens, sound_on, steps_fit, steps_stop_pens, test_stops_pens, told_on}
+use Rattle.tt_strike.proofs.TextSteps.{at_margin, layout_is, no_defect_of_job, pens_are, size_stops_pens, sound_on, steps_fit, steps_stop_pens, test_stops_pens, told_on}
 use Rattle.tt_strike.proofs.Stopped.{tested_at}
 use Rattle.tt_strike.proofs.sized.SizedFace.pens.Goals.{In_ok-test_text}
 use Rattle.tt_strike.proofs.sized.SizedFace.pens.Goals as goal
@@ -70,7 +70,7 @@ returns-in_err-steps-clause-defects c =
     let IsOne = HasLayoutDefect z.face (job_by z c.args.text.now c.args.margin) (text_glyphs z.face.cmap c.args.text.now) in
     let r : Result (Vec (ℕ × ℕ) Global) DrawFault = Err c.in_err-steps.field-0.0 in
     told_on IsOne r c.from_residual-in_err-steps.result c.in_err-steps.field-0.0 refl
-    (rw (p.1, p.2) refl) c.in_err-steps.ensures.defects
+    (rw (p.1, p.2) refl) (at_margin z c.args.text.now 0 c.args.margin (text_glyphs z.face.cmap c.args.text.now) r c.in_err-steps.ensures.defects)
 
 pub returns-in_err-size-clause-exact : goal.returns-in_err-size-clause-exact
 unfolding steps_outcome
@@ -125,4 +125,5 @@ returns-clause-defects c =
     let r : Result (Vec (ℕ × ℕ) Global) DrawFault = Ok c.in_ok-steps.steps in
     let made : TextPens = record { layout = c.layout_by-layout.result; pens = c.in_ok-pens.pens } in
     let q : Result TextPens DrawFault = Ok made in
-    sound_on IsOne r q c.in_ok-steps.steps made refl refl c.in_ok-steps.ensures.defects
+    sound_on IsOne r q c.in_ok-steps.steps made refl refl
+    (at_margin z c.args.text.now 0 c.args.margin (text_glyphs z.face.cmap c.args.text.now) r c.in_ok-steps.ensures.defects)
