@@ -50,7 +50,7 @@ fn rowless(number: u16, told: Told) -> DrawnGlyph
     }
 }
 
-/// The rest after a glyph with so many chords and crossings; None where it has more of either.
+/// The rest after a glyph with some chords and crossings; None where it has more of either.
 fn rest_of(left: LineLimits, chords: usize, crossings: u64) -> Option<LineLimits>
     ensures some { IfSome result (λ rest. (left.chords ≡ rest.chords + chords) × (left.crossings ≡ rest.crossings + crossings)) }
     ensures none { IfNone result ((left.chords < chords) ⊎ (left.crossings < crossings)) }
@@ -110,7 +110,7 @@ fn placed(
     })
 }
 
-/// A glyph that is drawn by its edges: in a bitmap, where that takes at most so many bytes. Error: memory ran out.
+/// A glyph that is drawn by its edges: in a bitmap, where that takes at most `most` bytes. Error: memory ran out.
 fn drawn(
     source: &FitterSource,
     number: u16,
