@@ -148,7 +148,7 @@ fn unfitted_of(
     Ok(listed)
 }
 
-/// Rows of so many bytes. Error: memory ran out.
+/// Rows of this length in bytes. Error: memory ran out.
 fn blank_rows(alloc: Global, count: usize) -> Result<Vec<u8>, AllocError>
     ensures { IfOk result (λ v. length v.items ≡ count) }
 {

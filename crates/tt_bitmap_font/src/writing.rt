@@ -35,7 +35,7 @@ fn characters_hint(job: JobFault) -> Option<Hint>
     }
 }
 
-/// What is reported to a person of the font's file, where the file is refused behind the reading.
+/// The words for a person about the font's file, where the file is refused behind the reading.
 fn hint_for(refusal: Refusal, file: &[u8], asked: &FontFile) -> Option<Hint>
     requires { length file.now ≤ font_limit }
     ensures { result ≡ hint_for refusal file.now asked.now }

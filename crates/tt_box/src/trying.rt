@@ -58,7 +58,7 @@ fn work_taken(left: Option<u64>) -> u64
     }
 }
 
-/// What the glyphs of a size take of the budget that are not drawn: copies, programs, points and deltas.
+/// The part of the budget that glyphs of a size take without being drawn: copies, programs, points and deltas.
 fn begun_cost(stage: &Stage) -> u64
     ensures { (face : Face) (a : Job) (s : Fitter) → HasStage face a s stage.now → result ≡ begun_cost face a s }
 {

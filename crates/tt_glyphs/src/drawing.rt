@@ -50,7 +50,7 @@ fn rowless(number: u16, told: Told) -> DrawnGlyph
     }
 }
 
-/// What remains after a glyph with so many chords and crossings; None where it has more of either.
+/// The rest after a glyph with some chords and crossings; None where it has more of either.
 fn rest_of(left: LineLimits, chords: usize, crossings: u64) -> Option<LineLimits>
     ensures some { IfSome result (λ rest. (left.chords ≡ rest.chords + chords) × (left.crossings ≡ rest.crossings + crossings)) }
     ensures none { IfNone result ((left.chords < chords) ⊎ (left.crossings < crossings)) }
@@ -110,7 +110,7 @@ fn placed(
     })
 }
 
-/// A glyph that is drawn by its edges: in a bitmap, where that takes at most so many bytes. Error: memory ran out.
+/// A glyph that is drawn by its edges: in a bitmap, where that takes at most `most` bytes. Error: memory ran out.
 fn drawn(
     source: &FitterSource,
     number: u16,
@@ -137,7 +137,7 @@ fn drawn(
     placed(source, number, place_of(ink), edged, pixels)
 }
 
-/// Charges the chords and the crossings of a glyph. False where it has more of either than is left; without limits none
+/// Charges the chords and the crossings of a glyph. False where it has more of either than remains; without limits none
 /// are counted.
 fn charge(left: &mut Option<LineLimits>, edged: &EdgedOutline) -> bool
     requires { EdgedFits edged.now }
@@ -165,7 +165,7 @@ fn exceeds_chords(left: Option<LineLimits>, ruled: &RuledOutline) -> bool
     }
 }
 
-/// A glyph that is drawn by its outline; None where it has more chords or crossings than are left. Error: memory ran
+/// A glyph that is drawn by its outline; None where it has more chords or crossings than remain. Error: memory ran
 /// out.
 fn draw_ruled(
     source: &FitterSource,
@@ -192,7 +192,7 @@ fn draw_ruled(
     Ok(Some(drawn(source, number, edged, most)?))
 }
 
-/// A glyph that is drawn or refused; None where it has more chords or crossings than are left. Error: memory ran out.
+/// A glyph that is drawn or refused; None where it has more chords or crossings than remain. Error: memory ran out.
 fn draw_one(
     source: &FitterSource,
     tried: TriedGlyph,

@@ -35,7 +35,7 @@ use tt_render_texts::{
 };
 use tt_strike::{Face, Strike, test_job};
 
-/// What is reported to a person of the font's file, where the font is refused.
+/// The words for a person about the font's file, where the font is refused.
 fn hint_for(refusal: Refusal, file: &[u8], asked: &Label) -> Option<Hint>
     requires { length file.now ≤ font_limit }
     ensures { result ≡ hint_for refusal file.now asked.now.setting }

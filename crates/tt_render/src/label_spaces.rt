@@ -37,7 +37,7 @@ fn label_box(given: GivenBox, align: Align) -> LabelBox
     }
 }
 
-/// What the fitters of a face at a size are made of.
+/// The parts of the fitters of a face at a size.
 fn source_of<'f, 'a>(sized: &SizedFace<'f, 'a>) -> FitterSource<'f, 'a>
     ensures face { result.face.now ≡ sized.now.face }
     ensures ppem { result.ppem ≡ sized.now.ppem }

@@ -43,7 +43,7 @@ impl Output {
         }
     }
 
-    /// What the text takes of the budget of a call of many lines.
+    /// The part of the budget of a call of many lines that the text takes.
     pub(crate) fn cost(&self) -> u64
         ensures { result ≡ cost_in self.now }
     {
