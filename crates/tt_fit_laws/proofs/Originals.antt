@@ -199,8 +199,8 @@ point-moved z at on x y q was =
     point-of-moved z.scale on x y a.value b.value q (coordinate-moved z at x a.value a.first)
     (coordinate-moved z at y b.value b.first) same
 
-cons-same : (a b : Point) (as bs : List Point) → a ≡ b → as ≡ bs → a ∷ as ≡ b ∷ bs
-cons-same a b as bs one rest = rw (one, rest) refl
+cons-same : (p q : Point) (ps qs : List Point) → p ≡ q → ps ≡ qs → p ∷ ps ≡ q ∷ qs
+cons-same p q ps qs one rest = rw (one, rest) refl
 
 points-moved : (z : FontSize) (at : ℕ) (ds : List RawPoint) (xs ys : List Varied) (ps : List InstancePoint)
     → instance_points z at ds xs ys ≡ Ok ps
@@ -244,8 +244,8 @@ zone-by : (how : Scaling) (units : List RawPoint) (phantom : PhantomPoints) (o :
     ≡ in_units units (map outline_point o.points) ++ phantom_zone phantom o.phantom grid
 zone-by how units phantom o grid rounded = rw rounded refl
 
-append-same : (as bs cs ds : List Point) → as ≡ bs → cs ≡ ds → as ++ cs ≡ bs ++ ds
-append-same as bs cs ds one rest = rw (one, rest) refl
+append-same : (ps qs rs ts : List Point) → ps ≡ qs → rs ≡ ts → ps ++ rs ≡ qs ++ ts
+append-same ps qs rs ts one rest = rw (one, rest) refl
 
 pub originals-are-moved : OriginalsAreMoved
 originals-are-moved i s g d b rounded some was =
