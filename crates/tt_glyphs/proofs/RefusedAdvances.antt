@@ -36,9 +36,9 @@ unfolding advance_without_hvar fitted_outline begun_glyph
 refused_outline i s g advance f is refused = elim (was-err (glyph_data_of s.tables g) _ f refused) [
   | inl bytes ↦ rw bytes refl
   | inr later ↦ elim (was-err (deltas_of i.gvar i.coordinates g later.value) _ f later.rest) [
-      | inl deltas ↦ rw (later.first, is, deltas) refl
-      | inr never ↦ let bad = never.rest in absurd cc
-    ]
+    | inl deltas ↦ rw (later.first, is, deltas) refl
+    | inr never ↦ let bad = never.rest in absurd cc
+  ]
 ]
 
 by_data : (there : Bool) (i : FaceInstance) (m : Metrics) (s : Fitter) (g : ℕ) (f : Fault) → not there ≡ true → s.instance ≡ Some i
