@@ -16,7 +16,7 @@ DONE, ROOM, _MESSAGE_BYTES = 0, 7, 90
 Box = NamedTuple("Box", [("left", int), ("top", int), ("right", int), ("bottom", int)])
 
 
-def _struct(name: str, **fields: Any) -> Any:
+def _struct(name: str, /, **fields: Any) -> Any:
     return type(name, (ctypes.Structure,), {"_fields_": list(fields.items())})
 
 

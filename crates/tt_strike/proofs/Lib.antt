@@ -12,7 +12,7 @@ pub mod Costed
 pub mod OneLine
 pub mod Placed
 pub mod Stepped
-mod CountsLeft
+mod Counts
 mod Limited
 mod Reported
 mod Seated

@@ -54,15 +54,15 @@ loop-line-preserved c =
       face = was.face;
       there = was.there;
       made = rw (
-            c.in_ok-push.ensures.items,
-            map_push its at.made.items made,
-            was.made,
-            own,
-            take_more lines i line below,
-            here,
-            map_push its (take i lines) line,
-            map_push step (map its (take i lines)) line.items,
-          ) refl;
+        c.in_ok-push.ensures.items,
+        map_push its at.made.items made,
+        was.made,
+        own,
+        take_more lines i line below,
+        here,
+        map_push its (take i lines) line,
+        map_push step (map its (take i lines)) line.items,
+      ) refl;
       tested = lists_pass found (all_found found (all_glyphs (its_units lines))) (all_glyphs (its_units (drop i lines))) gs
           (all_glyphs (its_units (drop (i + 1) lines))) was.tested (rw next refl) passes.0;
     })

@@ -82,8 +82,11 @@ pub returns-clause-exact : goal.returns-clause-exact
 returns-clause-exact c =
     let z = c.args.sized.now in
     let plain = plain_advances z.face (rw c.face-face.ensures at (rw c.finds_advances.ensures at c.if-finds_advances.false)) in
-    rw (c.in_ok-lines.ensures.exact, plain.tested (label_glyphs z.face.cmap c.args.text.now),
-    lines_alike z.face.metrics (advance_step z.face z.ppem) (step_in_pixels z.face.metrics z.ppem) z.face.cmap c.args.text.now (plain.step z.ppem)) refl
+    rw (
+      c.in_ok-lines.ensures.exact,
+      plain.tested (label_glyphs z.face.cmap c.args.text.now),
+      lines_alike z.face.metrics (advance_step z.face z.ppem) (step_in_pixels z.face.metrics z.ppem) z.face.cmap c.args.text.now (plain.step z.ppem),
+    ) refl
 
 pub returns-clause-defects : goal.returns-clause-defects
 returns-clause-defects c =

@@ -18,8 +18,11 @@ returns-clause-exact c =
     let lines = its_units c.args.lines.now in
     let plain = plain_advances face (rw c.finds_advances.ensures at c.if-finds_advances.false) in
     let made = rw c.metrics.ensures at c.in_ok-stepped_lines.ensures in
-    rw (made, plain.tested (all_glyphs lines),
-    rows_alike face.metrics (advance_step face z.ppem) (step_in_pixels face.metrics z.ppem) lines (plain.step z.ppem)) refl
+    rw (
+      made,
+      plain.tested (all_glyphs lines),
+      rows_alike face.metrics (advance_step face z.ppem) (step_in_pixels face.metrics z.ppem) lines (plain.step z.ppem),
+    ) refl
 
 pub returns-clause-defects : goal.returns-clause-defects
 returns-clause-defects c =

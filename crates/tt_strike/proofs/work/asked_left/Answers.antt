@@ -3,7 +3,7 @@ use Rattle.std.proofs.lemmas.Result.{IfOk-weaker}
 use Rattle.tt_core.specs.Limits.{point_work_limit}
 use Rattle.tt_fit.specs.DeltaCounting.{delta_limit}
 use Rattle.tt_strike.specs.Work.{all_counts, glyph_deltas, points_of_all}
-use Rattle.tt_strike.proofs.CountsLeft.{after_control, no_more_deltas}
+use Rattle.tt_strike.proofs.Counts.{after_control, no_more_deltas}
 use Rattle.tt_strike.proofs.work.asked_left.Goals as goal
 
 pub returns-in-Some : goal.returns-in-Some

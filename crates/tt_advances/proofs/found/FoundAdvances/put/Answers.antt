@@ -30,7 +30,7 @@ loop-i-preserved c =
       rest = drop-set-lt (i + 1) line i _ (omega arith) ∙ later_left line ps i was.rest;
       placed = one_more_placed found line ps i c.in_ok-units.units under below was.rest was.placed is;
       bound = rw (take_more_set line i ((get_or line i (0, 0)).0, c.in_ok-units.units) under)
-      (All-push (λ (p : ℕ × ℕ). p.1 < 2 ^ 16) (take i line) ((get_or line i (0, 0)).0, c.in_ok-units.units) was.bound small);
+          (All-push (λ (p : ℕ × ℕ). p.1 < 2 ^ 16) (take i line) ((get_or line i (0, 0)).0, c.in_ok-units.units) was.bound small);
       tested = rw is at next;
     })
 

@@ -13,5 +13,8 @@ invariant_of-self c =
     let small : c.in_ok-units.units < 2 ^ 16 = search rules in
     let asked = rw (← c.self.view_is) at c.requires in
     let below : c.args.glyph < length held.known.items = omega (arith, asked, was.0, was.1) in
-    rw (c.from-place.ensures, c.from.ensures) (was.0, length-set held.known.items c.args.glyph (c.in_ok-units.units + 1) ∙ was.1,
-    one_known f held.known.items c.args.glyph c.in_ok-units.units was.2 small c.in_ok-units.ensures.exact below)
+    rw (c.from-place.ensures, c.from.ensures) (
+      was.0,
+      length-set held.known.items c.args.glyph (c.in_ok-units.units + 1) ∙ was.1,
+      one_known f held.known.items c.args.glyph c.in_ok-units.units was.2 small c.in_ok-units.ensures.exact below,
+    )

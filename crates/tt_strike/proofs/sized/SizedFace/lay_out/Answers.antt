@@ -89,8 +89,11 @@ pub returns-clause-exact : goal.returns-clause-exact
 returns-clause-exact c =
     let z = c.args.self.now in
     let off = rw c.finds_advances.ensures at c.if-finds_advances.false in
-    rw (passed (goal.at.returns-clause-exact c).In_ok-test_text, placed_by_advances z.face (job_by z c.args.text.now c.args.margin) c.requires.unbounded off,
-    c.in_ok-line.ensures.exact) refl
+    rw (
+      passed (goal.at.returns-clause-exact c).In_ok-test_text,
+      placed_by_advances z.face (job_by z c.args.text.now c.args.margin) c.requires.unbounded off,
+      c.in_ok-line.ensures.exact,
+    ) refl
 
 pub returns-clause-defects : goal.returns-clause-defects
 returns-clause-defects c =

@@ -75,7 +75,7 @@ no_more_deltas most points deltas past =
 
 none_by : (most : CountsLeft) (p d points deltas : ℕ) (a b : Bool) → nat_le p most.points ≡ a
     → nat_le d most.deltas ≡ b
-    → None ≡ (if a && b then Some (record { points = most.points - p; deltas = most.deltas - d }) else None)
+    → ◌≡◌ {A = Option CountsLeft} None (if a && b then Some (record { points = most.points - p; deltas = most.deltas - d }) else None)
     → ◌≡◌ {A = Option CountsLeft} None (counts_left most (p + points) (d + deltas))
 none_by most p d points deltas true true few less is = absurd cc
 none_by most p d points deltas true false few less is =
@@ -103,12 +103,14 @@ pub counts_pass : (how : Fit) (points deltas : ℕ) (left : CountsLeft) → is_b
 unfolding counts_tested
 counts_pass how points deltas left bounded is =
     let rest = rest_of all_counts left points deltas is in
-    rw (in_limit how point_work_limit points bounded rest.few_points,
-      in_limit how delta_limit deltas bounded rest.few_deltas) refl
+    rw (
+      in_limit how point_work_limit points bounded rest.few_points,
+      in_limit how delta_limit deltas bounded rest.few_deltas,
+    ) refl
 
 stopped_by : (how : Fit) (points deltas : ℕ) (a b : Bool) → is_bounded how ≡ true → nat_le points point_work_limit ≡ a
     → nat_le deltas delta_limit ≡ b
-    → None ≡ (if a && b then Some {A = CountsLeft} (record { points = point_work_limit - points; deltas = delta_limit - deltas }) else None)
+    → ◌≡◌ {A = Option CountsLeft} None (if a && b then Some (record { points = point_work_limit - points; deltas = delta_limit - deltas }) else None)
     → counts_tested how points deltas ≡ Err fault.WorkLarge
 unfolding counts_tested
 stopped_by how points deltas true true bounded few less is = absurd cc
