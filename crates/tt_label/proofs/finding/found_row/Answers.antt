@@ -46,7 +46,7 @@ unit_row-requires-clause-line c =
     let all = goal.at.unit_row-requires-clause-line c in
     let z = c.args.found.now in
     let units : ℕ → ℕ = λ g. or_zero (glyph_units z.face.instance z.face.metrics z.tables g) in
-    rw (c.deref.ensures.value, found_then all.In_ok-put) (numbers_beside (unit_glyphs c.args.units.now) units)
+    rw (c.deref.ensures.value, found_then all.In_ok-put) (numbers_beside units (unit_glyphs c.args.units.now))
 
 pub unit_row-requires-clause-bound : goal.unit_row-requires-clause-bound
 unit_row-requires-clause-bound c =
