@@ -10,9 +10,8 @@ use Rattle.tt_render_run.proofs.mapping.lines.Goals as goal
 
 pub returns : goal.returns
 returns c =
-    let cmap = c.cmap-cmap.ensures.exact in
     let us = units_by c.args.face.now.cmap (chars c.args.text.now) in
-    let e = YieldsList-end (YieldsList-from_first (λ (u : TextUnit). u) (λ (left : List TextUnit). left) us (rw cmap refl))
+    let e = YieldsList-end (YieldsList-from_first (λ (u : TextUnit). u) (λ (left : List TextUnit). left) us cc)
     c.loop-unit.yielded _ c.loop-unit.yielded_by _ _ c.in-None.is c.next.ensures.steps in
     let all : c.loop-unit.yielded ≡ us = sym (map-id c.loop-unit.yielded) ∙ e.0 in
     rw (← all) c.loop-unit.invariant.lines
