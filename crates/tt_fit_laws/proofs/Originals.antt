@@ -166,7 +166,7 @@ defaults-begin-scaled s g d b none was =
     (record {
       program = refl;
       outline = λ some. in-a-chain (start s phantom g) to_scale begun.value scaled.value
-      (not-bare s phantom g d.code begun.value some begun.first) scaled.first;
+          (not-bare s phantom g d.code begun.value some begun.first) scaled.first;
     })
 
 -- a simple glyph at an instance
@@ -199,8 +199,8 @@ point-moved z at on x y q was =
     point-of-moved z.scale on x y a.value b.value q (coordinate-moved z at x a.value a.first)
     (coordinate-moved z at y b.value b.first) same
 
-cons-same : (a b : Point) (as bs : List Point) → a ≡ b → as ≡ bs → a ∷ as ≡ b ∷ bs
-cons-same a b as bs one rest = rw (one, rest) refl
+cons-same : (p q : Point) (ps qs : List Point) → p ≡ q → ps ≡ qs → p ∷ ps ≡ q ∷ qs
+cons-same p q ps qs one rest = rw (one, rest) refl
 
 points-moved : (z : FontSize) (at : ℕ) (ds : List RawPoint) (xs ys : List Varied) (ps : List InstancePoint)
     → instance_points z at ds xs ys ≡ Ok ps
@@ -239,13 +239,18 @@ fine-start-is s g d v f was =
     let moved = ends-moved (glyph_offset s.tables g) (default_units s d.x_min g) (ends_of s n v) units.value units.first in
     rw (← same) (record { units = moved; outline = begun.first })
 
-zone-by : (how : Scaling) (units : List RawPoint) (phantom : PhantomPoints) (o : Outline) (grid : PhantomPoints)
-    → how ≡ scaling.Rounded → glyph_zone (units_by how units phantom) o grid
-    ≡ in_units units (map outline_point o.points) ++ phantom_zone phantom o.phantom grid
-zone-by how units phantom o grid rounded = rw rounded refl
+append-same : (ps qs rs ts : List Point) → ps ≡ qs → rs ≡ ts → ps ++ rs ≡ qs ++ ts
+append-same ps qs rs ts one rest = rw (one, rest) refl
 
-append-same : (as bs cs ds : List Point) → as ≡ bs → cs ≡ ds → as ++ cs ≡ bs ++ ds
-append-same as bs cs ds one rest = rw (one, rest) refl
+zone-moved : (how : Scaling) (z : FontSize) (at : ℕ) (ds : List RawPoint) (xs ys : List Varied)
+    (ps : List InstancePoint) (ends : List ℕ) (moved units : PhantomPoints) (o : Outline) (grid : PhantomPoints)
+    → how ≡ scaling.Rounded → instance_points z at ds xs ys ≡ Ok ps → moved ≡ units
+    → glyph_zone (units_by how (instance_units ps) units) (outline_in_place (instance_places ps) ends o) grid
+    ≡ moved_originals z.scale ds xs ys ++ phantom_zone moved o.phantom grid
+zone-moved how z at ds xs ys ps ends moved units o grid rounded was same =
+    rw (rounded, same)
+    (append-same (in_units (instance_units ps) (map outline_point (instance_places ps))) (moved_originals z.scale ds xs ys)
+    (phantom_zone units o.phantom grid) (phantom_zone units o.phantom grid) (points-moved z at ds xs ys ps was) refl)
 
 pub originals-are-moved : OriginalsAreMoved
 originals-are-moved i s g d b rounded some was =
@@ -258,17 +263,16 @@ originals-are-moved i s g d b rounded some was =
     let is = fine-start-is s g d v.value fine.value fine.first in
     let phantom = fine_phantom s g d v.value in
     let ps = moved.value in
-    let o = outline_in_place (instance_places ps) d.ends fine.value.outline in
     let same : simple_moved s g d fine.value ps ≡ b = let done = moved.rest in cc in
     rw (← same)
     (record {
       deltas = v.value;
       found = v.first;
-      zone = λ grid. zone-by s.scaling (instance_units ps) fine.value.units o grid rounded
-      ∙ append-same _ _ _ _ (points-moved z at d.points v.value.xs v.value.ys ps moved.first)
-      (ap (λ u. phantom_zone u fine.value.outline.phantom grid) (sym is.units));
+      zone = λ grid. zone-moved s.scaling z at d.points v.value.xs v.value.ys ps d.ends
+          (moved_ends (default_units s d.x_min g) (ends_of s (length d.points) v.value)) fine.value.units fine.value.outline
+          grid rounded moved.first is.units;
       phantom = λ full. sym (phantom-begun at phantom fine.value.outline
-      (not-bare s phantom g d.code fine.value.outline full is.outline));
+          (not-bare s phantom g d.code fine.value.outline full is.outline));
     })
 
 -- with every fit but Best

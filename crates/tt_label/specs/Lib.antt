@@ -1,4 +1,5 @@
 pub mod Begun
+pub mod Finding
 pub mod Fitted
 pub mod Gathered
 pub mod InkLaws

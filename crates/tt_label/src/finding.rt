@@ -1,17 +1,15 @@
 //! The steps of lines by their advances. At an instance without HVAR the data of the glyphs give these.
 
 ghost use Rattle.std.specs.List.{flat_map};
-ghost use Rattle.std.specs.Prelude.{◌≡◌, ◌<◌, ◌≤◌, ◌^◌, true, length, map, chars, All, IfOk, Ok, OnOk};
+ghost use Rattle.std.specs.Prelude.{◌≡◌, ◌<◌, ◌≤◌, true, length, map, chars, All, IfOk};
 ghost use Rattle.tt_advances.specs.Defects.{IsAdvanceDefect};
-ghost use Rattle.tt_advances.specs.Found.{advances_tested, all_found, glyph_units, or_zero};
-ghost use Rattle.tt_advances.specs.Lines.{advance_step};
 ghost use Rattle.tt_core.specs.Limits.{size_limit, text_limit};
-ghost use Rattle.tt_core.specs.Outcomes.{◌>>=◌, FontGives, font_fault};
-ghost use Rattle.tt_face.specs.Faces.{finds_advances, glyphs_in};
-ghost use Rattle.tt_label.specs.Fitted.{glyphs_in as line_glyphs, with_steps};
-ghost use Rattle.tt_label.specs.Label.{label_glyphs, stepped_lines};
-ghost use Rattle.tt_label_rows.specs.Units as rows;
-ghost use Rattle.tt_line.specs.Steps.{step_by_units, stepped};
+ghost use Rattle.tt_core.specs.Outcomes.{FontGives, font_fault};
+ghost use Rattle.tt_face.specs.Faces.{finds_advances};
+ghost use Rattle.tt_label.specs.Finding.{found_line, found_lines, found_row, found_rows, found_text};
+ghost use Rattle.tt_label.specs.Fitted.{glyphs_in};
+ghost use Rattle.tt_label.specs.Label.{label_glyphs};
+ghost use Rattle.tt_label_rows.specs.Units.{all_glyphs};
 ghost use Rattle.tt_metrics.specs.Metrics.{glyphs_of};
 ghost use Rattle.tt_strike.specs.Defects.{TellsDefects};
 
@@ -36,8 +34,7 @@ fn found_line(
     requires size { ppem ≤ size_limit }
     requires metrics { metrics.now ≡ found.old.face.metrics }
     requires known { All (λ g. g.0 < glyphs_of metrics.now) line.items }
-    ensures exact { FontGives (λ v. v.items) result (all_found (glyph_units found.old.face.instance metrics.now found.old.tables) (map (λ g. g.0) line.items)
-        >>= λ u. Ok (stepped metrics.now (step_by_units metrics.now ppem (λ g. or_zero (glyph_units found.old.face.instance metrics.now found.old.tables g))) (map (λ g. g.0) line.items))) }
+    ensures exact { FontGives (λ v. v.items) result (found_line found.old ppem (map (λ g. g.0) line.items)) }
     ensures same { found.new ≡ found.old }
 {
     let mut line = line;
@@ -57,9 +54,8 @@ fn found_lines(
     requires size { ppem ≤ size_limit }
     requires finds { finds_advances face.now ≡ true }
     requires known { All (λ l. All (λ g. g.0 < glyphs_of face.now.metrics) l.items) lines.items }
-    ensures exact { FontGives (λ v. map (λ l. l.items) v.items) result (advances_tested face.now (line_glyphs (map (λ l. l.items) lines.items))
-        >>= λ u. Ok (with_steps face.now.metrics (advance_step face.now ppem) (map (λ l. l.items) lines.items))) }
-    ensures defects { TellsDefects font_fault (IsAdvanceDefect face.now (line_glyphs (map (λ l. l.items) lines.items))) result }
+    ensures exact { FontGives (λ v. map (λ l. l.items) v.items) result (found_lines face.now ppem (map (λ l. l.items) lines.items)) }
+    ensures defects { TellsDefects font_fault (IsAdvanceDefect face.now (glyphs_in (map (λ l. l.items) lines.items))) result }
 {
     let mut found = FoundAdvances::open(alloc, face)?;
     let mut made = Vec::with_capacity(alloc, lines.len())?;
@@ -76,8 +72,7 @@ pub(crate) fn label_units(
     text: &str,
 ) -> Result<Vec<Vec<(u16, u32)>>, FontFault>
     requires text { length (chars text.now) ≤ text_limit }
-    ensures exact { FontGives (λ v. map (λ l. l.items) v.items) result (advances_tested sized.old.face (label_glyphs sized.old.face.cmap text.now)
-        >>= λ u. Ok (stepped_lines sized.old.face.metrics (advance_step sized.old.face sized.old.ppem) sized.old.face.cmap text.now)) }
+    ensures exact { FontGives (λ v. map (λ l. l.items) v.items) result (found_text sized.old.face sized.old.ppem text.now) }
     ensures known { IfOk result (λ v. All (λ l. All (λ g. g.0 < glyphs_of sized.old.face.metrics) l.items) v.items) }
     ensures few { IfOk result (λ v. length (flat_map (λ l. l.items) v.items) ≤ text_limit) }
     ensures some { IfOk result (λ v. 1 ≤ length v.items) }
@@ -106,8 +101,7 @@ fn found_row(
     requires size { ppem ≤ size_limit }
     requires metrics { metrics.now ≡ found.old.face.metrics }
     requires known { All (λ u. u.glyph < glyphs_of metrics.now) units.now }
-    ensures exact { FontGives (λ v. v.items) result (all_found (glyph_units found.old.face.instance metrics.now found.old.tables) (rows.unit_glyphs units.now)
-        >>= λ u. Ok (rows.stepped_units metrics.now (step_by_units metrics.now ppem (λ g. or_zero (glyph_units found.old.face.instance metrics.now found.old.tables g))) units.now)) }
+    ensures exact { FontGives (λ v. v.items) result (found_row found.old ppem units.now) }
     ensures same { found.new ≡ found.old }
 {
     let mut line = glyph_line(alloc, units)?;
@@ -126,9 +120,8 @@ fn found_rows(
     requires size { ppem ≤ size_limit }
     requires finds { finds_advances face.now ≡ true }
     requires known { All (λ l. All (λ u. u.glyph < glyphs_of face.now.metrics) l.items) lines.now }
-    ensures exact { FontGives (λ v. map (λ l. l.items) v.items) result (advances_tested face.now (rows.all_glyphs (map (λ l. l.items) lines.now))
-        >>= λ u. Ok (rows.stepped_lines face.now.metrics (advance_step face.now ppem) (map (λ l. l.items) lines.now))) }
-    ensures defects { TellsDefects font_fault (IsAdvanceDefect face.now (rows.all_glyphs (map (λ l. l.items) lines.now))) result }
+    ensures exact { FontGives (λ v. map (λ l. l.items) v.items) result (found_rows face.now ppem (map (λ l. l.items) lines.now)) }
+    ensures defects { TellsDefects font_fault (IsAdvanceDefect face.now (all_glyphs (map (λ l. l.items) lines.now))) result }
 {
     let mut found = FoundAdvances::open(alloc, face)?;
     let mut made = Vec::with_capacity(alloc, lines.len())?;
@@ -145,9 +138,8 @@ pub(crate) fn row_units(
     lines: &[Vec<RowUnit>],
 ) -> Result<Vec<Vec<RowUnit>>, FontFault>
     requires known { All (λ l. All (λ u. u.glyph < glyphs_of source.now.face.now.metrics) l.items) lines.now }
-    ensures exact { FontGives (λ v. map (λ l. l.items) v.items) result (advances_tested source.now.face.now (rows.all_glyphs (map (λ l. l.items) lines.now))
-        >>= λ u. Ok (rows.stepped_lines source.now.face.now.metrics (advance_step source.now.face.now source.now.ppem) (map (λ l. l.items) lines.now))) }
-    ensures defects { TellsDefects font_fault (IsAdvanceDefect source.now.face.now (rows.all_glyphs (map (λ l. l.items) lines.now))) result }
+    ensures exact { FontGives (λ v. map (λ l. l.items) v.items) result (found_rows source.now.face.now source.now.ppem (map (λ l. l.items) lines.now)) }
+    ensures defects { TellsDefects font_fault (IsAdvanceDefect source.now.face.now (all_glyphs (map (λ l. l.items) lines.now))) result }
 {
     let face = source.face;
     if face.finds_advances() {

@@ -38,7 +38,7 @@ loop-line-preserved c =
     let step = advance_step face c.args.ppem in
     let found = glyph_units face.instance face.metrics at.found.tables in
     let steps : into_iter_items at.line-iterator ≡ line ∷ left = c.in-Some.ensures.steps.0 in
-    let passes = after_test (all_found found numbers) _ made.items (rw (c.metrics.ensures, was.face) at c.in_ok-found_line.ensures.exact) in
+    let passes = after_test (all_found found numbers) _ made.items (rw was.face at c.in_ok-found_line.ensures.exact) in
     let own : made.items ≡ stepped face.metrics step numbers = passes.1 ∙ line_alike face at.found.tables c.args.ppem numbers was.there in
     let whole = rw steps at was.steps in
     rw c.in_ok-found_line.ensures.same (record {
@@ -81,7 +81,7 @@ returns-in_err-found_line-clause-exact c =
     let numbers = map (λ (g : ℕ × ℕ). g.0) line.items in
     let e = c.in_err-found_line.field-0.0 in
     let steps : into_iter_items at.line-iterator ≡ line ∷ left = c.in-Some.ensures.steps.0 in
-    let one = before_value (all_found found numbers) _ e (rw (c.metrics.ensures, was.face) at c.in_err-found_line.ensures.exact) in
+    let one = before_value (all_found found numbers) _ e (rw was.face at c.in_err-found_line.ensures.exact) in
     let stops = lists_stop found (all_found found gs) (line_glyphs (items_of (into_iter_items at.line-iterator))) numbers
     (line_glyphs (items_of left)) e was.tested (rw steps (line_and_others line.items (items_of left))) one in
     rw (p.1, p.2) (then_value (advances_tested face gs) _ e (rw (tested_by face at.found.tables gs c.requires.finds was.there) stops))
@@ -99,7 +99,7 @@ returns-in_err-found_line-clause-defects c =
     let numbers = map (λ (g : ℕ × ℕ). g.0) line.items in
     let e = c.in_err-found_line.field-0.0 in
     let steps : into_iter_items at.line-iterator ≡ line ∷ left = c.in-Some.ensures.steps.0 in
-    let one = before_value (all_found found numbers) _ e (rw (c.metrics.ensures, was.face) at c.in_err-found_line.ensures.exact) in
+    let one = before_value (all_found found numbers) _ e (rw was.face at c.in_err-found_line.ensures.exact) in
     let stops = lists_stop found (all_found found gs) (line_glyphs (items_of (into_iter_items at.line-iterator))) numbers
     (line_glyphs (items_of left)) e was.tested (rw steps (line_and_others line.items (items_of left))) one in
     rw (p.1, p.2) (test_tells face at.found.tables gs e c.requires.finds was.there stops)

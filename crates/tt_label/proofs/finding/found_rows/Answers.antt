@@ -48,7 +48,7 @@ loop-line-preserved c =
     let step = stepped_units face.metrics (advance_step face c.args.ppem) in
     let found = glyph_units face.instance face.metrics at.found.tables in
     let next = next_is lines i line below c.line-item.is in
-    let passes = after_test (all_found found gs) _ made.items (rw (c.metrics.ensures, was.face, c.deref.ensures.value) at c.in_ok-found_row.ensures.exact) in
+    let passes = after_test (all_found found gs) _ made.items (rw (was.face, c.deref.ensures.value) at c.in_ok-found_row.ensures.exact) in
     let own : made.items ≡ step line.items = passes.1 ∙ row_alike face at.found.tables c.args.ppem line.items was.there in
     rw c.in_ok-found_row.ensures.same (record {
       face = was.face;
@@ -92,7 +92,7 @@ returns-in_err-found_row-clause-exact c =
     let gs = unit_glyphs c.line-item.result.items in
     let e = c.in_err-found_row.field-0.0 in
     let next = next_is lines at.line-index c.line-item.result c.loop-line-test.true c.line-item.is in
-    let one = before_value (all_found found gs) _ e (rw (c.metrics.ensures, was.face, c.deref.ensures.value) at c.in_err-found_row.ensures.exact) in
+    let one = before_value (all_found found gs) _ e (rw (was.face, c.deref.ensures.value) at c.in_err-found_row.ensures.exact) in
     let stops = lists_stop found (all_found found all) (all_glyphs (its_units (drop at.line-index lines))) gs
     (all_glyphs (its_units (drop (at.line-index + 1) lines))) e was.tested (rw next refl) one in
     rw (p.1, p.2) (then_value (advances_tested face all) _ e (rw (tested_by face at.found.tables all c.requires.finds was.there) stops))
@@ -109,7 +109,7 @@ returns-in_err-found_row-clause-defects c =
     let gs = unit_glyphs c.line-item.result.items in
     let e = c.in_err-found_row.field-0.0 in
     let next = next_is lines at.line-index c.line-item.result c.loop-line-test.true c.line-item.is in
-    let one = before_value (all_found found gs) _ e (rw (c.metrics.ensures, was.face, c.deref.ensures.value) at c.in_err-found_row.ensures.exact) in
+    let one = before_value (all_found found gs) _ e (rw (was.face, c.deref.ensures.value) at c.in_err-found_row.ensures.exact) in
     let stops = lists_stop found (all_found found all) (all_glyphs (its_units (drop at.line-index lines))) gs
     (all_glyphs (its_units (drop (at.line-index + 1) lines))) e was.tested (rw next refl) one in
     rw (p.1, p.2) (test_tells face at.found.tables all e c.requires.finds was.there stops)

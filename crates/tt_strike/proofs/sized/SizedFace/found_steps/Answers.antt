@@ -67,7 +67,7 @@ steps_then c found =
     let both : ℕ → ℕ × ℕ = λ g. (g, units_of z.face g) in
     let line : c.deref_mut-2.result.now ≡ map both gs = c.deref_mut-2.ensures.value ∙ found in
     let numbers : map (λ (g : ℕ × ℕ). g.0) c.deref_mut-2.result.now ≡ gs =
-    ap (λ (ps : List (ℕ × ℕ)). map (λ (g : ℕ × ℕ). g.0) ps) line ∙ numbers_beside gs (units_of z.face) in
+    ap (λ (ps : List (ℕ × ℕ)). map (λ (g : ℕ × ℕ). g.0) ps) line ∙ numbers_beside (units_of z.face) gs in
     let beside : c.deref_mut-2.result.now ≡ map both (map (λ (g : ℕ × ℕ). g.0) c.deref_mut-2.result.now) =
     line ∙ ap (λ (ns : List ℕ). map both ns) (sym numbers) in
     let put : c.put_unit_steps.new.line ≡ stepped z.face.metrics step (map (λ (g : ℕ × ℕ). g.0) c.deref_mut-2.result.now) =
