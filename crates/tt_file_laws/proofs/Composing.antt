@@ -322,7 +322,7 @@ unfolding setting
 no_bound unbounded face ppem how s other was =
     let by_tables = came-through (glyphs_in face) _ s was in
     let by_programs = came-through (programs_in face how) _ s by_tables.rest in
-    (unbounded face.metrics by_tables.value by_programs.value ppem how s other by_programs.rest).0
+    (unbounded face.metrics by_tables.value by_programs.value face.instance ppem how s other by_programs.rest).0
 
 pub others_are_alike : OthersAreUnbounded → UnboundedAreAlike → OthersAreAlike
 others_are_alike unbounded alike face ppem how s gs line g other set =
