@@ -1,5 +1,6 @@
 -- The lines of a text by the advances of its glyphs, which are found first.
-use Rattle.std.proofs.Common.{◌≡◌, refl, ℕ, true, false, List, [], ◌∷◌, map, Option, Result, Ok, Err, inl, inr, subst}
+use Rattle.std.proofs.Common.{◌≡◌, ◌∙◌, refl, sym, ap, ℕ, true, false, List, [], ◌∷◌, ◌++◌, map, Option, Result, Ok, Err, inl, inr, subst}
+use Rattle.std.proofs.lemmas.List.{append-nil, append_assoc}
 use Rattle.std.specs.Prelude.{IfSome, IsOkAnd}
 use Rattle.tt_advances.proofs.Advances.{plain_advances, units_by_tables}
 use Rattle.tt_advances.specs.Defects.{IsAdvanceDefect}
@@ -54,6 +55,14 @@ tells_of_face r i file text face (Err (fault.Font f)) there none tells = inr (rw
 pub face_tells : (r : Reading) (i : Option Asked) (file text : List ℕ) (f : Fault) → IsDefectAtInstance file (plain_opening r) i f
     → IsMapDefect r i text file f
 face_tells r i file text f stands = inl stands
+
+-- a walk over units: those so far, and then those that are left, are all
+pub goes-on : {A : Type 0} (done left rest all : List A) (x : A) → left ≡ x ∷ rest → done ++ left ≡ all
+    → (done ++ x ∷ []) ++ rest ≡ all
+goes-on done left rest all x first split = append_assoc done (x ∷ []) rest ∙ ap (λ xs. done ++ xs) (sym first) ∙ split
+
+pub at-the-end : {A : Type 0} (done left all : List A) → left ≡ [] → done ++ left ≡ all → done ≡ all
+at-the-end done left all none split = sym (append-nil done) ∙ ap (λ xs. done ++ xs) (sym none) ∙ split
 
 -- the units that are left, after one whose advance is found
 pub found_next : (found : ℕ → Result ℕ Fault) (g : TextUnit → ℕ) (all : Result (Unit {0}) Fault) (us rest : List TextUnit) (u : TextUnit) (n : ℕ)

@@ -54,11 +54,6 @@ label_numbers c =
     ap (λ (l : Placement). map (λ (g : ℕ × ℕ). g.0) l.glyphs) (line_then c) ∙ zero_numbers (all_glyphs (text_units cmap c.args.text.now))
     ∙ text_has cmap c.args.text.now
 
-pub row_units-requires : goal.row_units-requires
-row_units-requires c =
-    let known = rw (← c.sized.view_is) at c.in_ok-units.ensures.known in
-    record { known = rw c.deref.ensures.value known }
-
 -- the units are those of the text
 units_then : (c : In_ok-units) → its_units c.in_ok-units.units.items ≡ text_units c.sized.inside.source.face.now.cmap c.args.text.now
 units_then c = rw (← c.sized.view_is) at c.in_ok-units.ensures.exact

@@ -5,11 +5,10 @@ use Rattle.tt_advances.proofs.Advances.{found_whole}
 use Rattle.tt_advances.proofs.Finding.{tables_refuse, tables_tell, test_tells, tested_by}
 use Rattle.tt_advances.specs.Found.{advances_tested, all_found, glyph_units, units_of}
 use Rattle.tt_cmap.specs.Maps.{glyph_of_unit, units_by}
-use Rattle.tt_line.proofs.Walks.{at-the-end, goes-on}
 use Rattle.tt_line.specs.Layout.{text_glyphs}
 use Rattle.tt_metrics.specs.Metrics.{glyphs_of}
 use Rattle.tt_render_run.specs.MapLines.{map_line}
-use Rattle.tt_render_run.proofs.Mapped.{found_next, found_stops, none_left, tested_lines, units_found, untested_lines}
+use Rattle.tt_render_run.proofs.Mapped.{at-the-end, found_next, found_stops, goes-on, none_left, tested_lines, units_found, untested_lines}
 use Rattle.tt_render_run.proofs.mapping.found_lines.Goals.{After-glyph_of_unit-number, In-None}
 use Rattle.tt_render_run.proofs.mapping.found_lines.Goals as goal
 
