@@ -1,5 +1,5 @@
 -- The bitmaps of a tried list, once its glyphs are drawn.
-use Rattle.std.proofs.Common.{◌≡◌, ◌∙◌, ap, refl, ℕ, List, All, length, map, slice_index, Ok, Err}
+use Rattle.std.proofs.Common.{◌≡◌, ◌∙◌, ap, refl, sym, ℕ, List, All, length, map, slice_index, Ok, Err}
 use Rattle.std.specs.Prelude.{IfSome, flat_map}
 use Rattle.tt_core.specs.declared.draw_fault.DrawFault.{DrawFault}
 use Rattle.tt_core.specs.declared.draw_fault.DrawFault.TheVariants as draw

@@ -1,7 +1,7 @@
 use Rattle.std.proofs.Common.{◌∙◌, ap, ◌++◌}
 use Rattle.tt_program_faces.specs.FaceLines.{faces_head, lines_of_face}
 use Rattle.tt_program_faces.proofs.FaceTexts.{lines-more}
-use Rattle.tt_program_faces.proofs.faces.lines.Goals as goal
+use Rattle.tt_program_faces.proofs.listing.lines.Goals as goal
 
 pub loop-n-preserved : goal.loop-n-preserved
 loop-n-preserved c =

@@ -1,4 +1,4 @@
-use Rattle.tt_program_faces.proofs.faces.fault_line.Goals as goal
+use Rattle.tt_program_faces.proofs.listing.fault_line.Goals as goal
 
 pub returns : goal.returns
 returns c =

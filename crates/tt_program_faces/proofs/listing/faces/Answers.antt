@@ -6,7 +6,7 @@ use Rattle.tt_render_run.proofs.Calls.{IsRead, reading_fails, with_bytes, tells_
 use Rattle.tt_strike.specs.Refusals.{Refused, as_font}
 use Rattle.tt_program_faces.specs.FaceLines.{IsFacesDefect, faces_of, faces_wanted}
 use Rattle.tt_program_faces.proofs.FaceCalls.{faces-are-of-font}
-use Rattle.tt_program_faces.proofs.faces.faces.Goals as goal
+use Rattle.tt_program_faces.proofs.listing.faces.Goals as goal
 
 -- the lines of a font
 abbrev made : List ℕ → Result (List ℕ) Refused

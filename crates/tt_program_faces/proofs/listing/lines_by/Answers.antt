@@ -1,6 +1,6 @@
 use Rattle.std.proofs.lemmas.Result.{err_from_is_err_and}
 use Rattle.tt_render_settings.proofs.FirstFaces.{count-stands, count-whole}
-use Rattle.tt_program_faces.proofs.faces.lines_by.Goals as goal
+use Rattle.tt_program_faces.proofs.listing.lines_by.Goals as goal
 
 pub returns-in_err-count-clause-defects : goal.returns-in_err-count-clause-defects
 returns-in_err-count-clause-defects c =
