@@ -1,5 +1,6 @@
 -- A face that is opened at an instance has the directory and the character map of the file's face.
-use Rattle.std.proofs.Common.{◌≡◌, ◌∙◌, ℕ, ℤ, Bool, true, false, List, Option, Some, None, Result, Ok, Err, ap, sym, if◌then◌else◌, refl}
+use Rattle.std.proofs.Common.{◌≡◌, ◌∙◌, ℕ, ℤ, Bool, true, false, List, Option, Some, None, Result, Ok, Err, ap, sym, if◌then◌else◌, length, refl}
+use Rattle.tt_axes.specs.Coordinates.{are_zero}
 use Rattle.tt_core.specs.Chains.{came-through}
 use Rattle.tt_core.proofs.Whole.{directory-kept}
 use Rattle.tt_core.specs.Collections.{directory_at, directory_by, offset_of}
@@ -8,6 +9,7 @@ use Rattle.tt_core.specs.Directory.{Directory, needed_table}
 use Rattle.tt_cmap.specs.Maps.{map_by}
 use Rattle.tt_core.specs.Faults.{Fault}
 use Rattle.tt_core.specs.Outcomes.{◌>>=◌}
+use Rattle.tt_deltas.specs.Gvar.{Gvar, gvar_of}
 use Rattle.tt_face.specs.declared.rules.Opening.{Opening}
 use Rattle.tt_face.specs.Faces.{Face, cmap_tag, finds_advances}
 use Rattle.tt_face.specs.Files.{face_at, face_by}
@@ -20,20 +22,16 @@ record AreAlike (a b : Face) : Type 0 where
   directory : a.directory ≡ b.directory
   cmap : a.cmap ≡ b.cmap
 
-by_test : {X : Type 0} (zero : Bool) (face varied : Face) (r : Result X Fault) (other : X → Face)
-    → ((x : X) → AreAlike (other x) face) → (if zero then Ok face else (r >>= λ x. Ok (other x))) ≡ Ok varied
-    → AreAlike varied face
-by_test true face varied r other alike is =
-    let same : varied ≡ face = cc in rw same (record { directory = refl; cmap = refl })
-by_test false face varied r other alike is =
-    let read = came-through r _ varied is in
-    let same : varied ≡ other read.value = let rest = read.rest in cc in
-    rw same (alike read.value)
+by_test : (zero : Bool) (face varied : Face) (c : List ℤ) (gvar : Result Gvar Fault)
+    → (if zero then Ok face else gvar >>= λ g. Ok (face_by_gvar face c g)) ≡ Ok varied → AreAlike varied face
+by_test true face varied c gvar is = let same : varied ≡ face = cc in rw same (record { directory = refl; cmap = refl })
+by_test false face varied c (Ok g) is =
+    let same : varied ≡ face_by_gvar face c g = cc in rw same (record { directory = refl; cmap = refl })
+by_test false face varied c (Err e) is = absurd cc
 
 at_coordinates : (face varied : Face) (c : List ℤ) → face_at_coordinates face c ≡ Ok varied → AreAlike varied face
 unfolding face_at_coordinates
-at_coordinates face varied c is =
-    by_test _ face varied _ (face_by_gvar face c) (λ x. record { directory = refl; cmap = refl }) is
+at_coordinates face varied c is = by_test (are_zero c) face varied c (gvar_of face.directory (length c)) is
 
 at_asked : (face varied : Face) (i : Option Asked) → face_at_asked face i ≡ Ok varied → AreAlike varied face
 at_asked face varied None is = let same : varied ≡ face = cc in rw same (record { directory = refl; cmap = refl })
