@@ -110,8 +110,9 @@ instance_read file r face is =
 none_found : (face : Face) → face.instance ≡ None → finds_advances face ≡ false
 none_found face none = rw none refl
 
-kept_instance : (a b : Face) → Ok a ≡ Ok b → b.instance ≡ a.instance
-kept_instance a b is = let same : b ≡ a = cc in ap (λ (f : Face). f.instance) same
+kept_instance : (a b : Face) (i : Option Asked) → i ≡ None → face_at_asked a i ≡ Ok b → b.instance ≡ a.instance
+kept_instance a b None none is = let same : b ≡ a = cc in ap (λ (f : Face). f.instance) same
+kept_instance a b (Some asked) none is = absurd cc
 
 pub finds_none : (file : List ℕ) (o : Opening) (i : Option Asked) (face : Face) → i ≡ None → face_at_instance file o i ≡ Ok face
     → finds_advances face ≡ false
@@ -120,6 +121,5 @@ finds_none file o i face none is =
     let was = came-through (face_by file o.reading) _ face is in
     let moved = came-through (face_at_asked was.value i) _ face was.rest in
     let same : face ≡ ruled o.rules moved.value = cc in
-    let kept : Ok was.value ≡ Ok moved.value = rw none at moved.first in
-    none_found face (ap (λ (f : Face). f.instance) same ∙ kept_instance was.value moved.value kept
+    none_found face (ap (λ (f : Face). f.instance) same ∙ kept_instance was.value moved.value i none moved.first
     ∙ instance_read file o.reading was.value was.first)
