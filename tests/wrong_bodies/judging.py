@@ -39,6 +39,8 @@ def load_rt():
     made = importlib.util.module_from_spec(importlib.util.spec_from_loader("rt", loader))
     loader.exec_module(made)
     os.environ.pop(made.rtlib.ALLOW_C, None)
+    if not all(hasattr(made, it) for it in ("share_work", "seeded", "Kept")):
+        sys.exit("wrong_bodies: this toolchain keeps no proof to begin from, so nothing is judged")
     made.rtlib.guarded()
     made.share_work(False)
     return made
