@@ -93,19 +93,29 @@ impl MadeOutline {
     }
 }
 
+/// A count in the cache's type; None where there is none, or the count exceeds 32 bits.
+fn told(count: Option<u64>) -> Option<u32>
+    ensures { IfSome result (λ n. count ≡ Some n) }
+{
+    match u32::try_from(count?) {
+        Ok(count) => Some(count),
+        Err(_) => None,
+    }
+}
+
 /// The points of a glyph; None where there is no cache, or they are too many for a line. Error: Memory.
 pub(crate) fn points_of(
     fitter: &Fitter,
     number: u16,
     cached: bool,
-) -> Result<Option<u64>, AllocError>
+) -> Result<Option<u32>, AllocError>
     requires { number < fitter.now.tables.glyphs }
     ensures { IfOk result (λ p. IfSome p (λ n. n ≡ points_asked fitter.now.tables fitter.now.levels number)) }
 {
     if !cached {
         return Ok(None);
     }
-    fitter.points(number, POINT_WORK_LIMIT)
+    Ok(told(fitter.points(number, POINT_WORK_LIMIT)?))
 }
 
 /// The deltas of a glyph; None where its points are not counted, or the deltas are too many for a line. Error: Memory.
@@ -113,14 +123,14 @@ pub(crate) fn deltas_of(
     fitter: &Fitter,
     number: u16,
     counted: bool,
-) -> Result<Option<u64>, AllocError>
+) -> Result<Option<u32>, AllocError>
     requires { number < fitter.now.tables.glyphs }
     ensures { IfOk result (λ d. IfSome d (λ n. n ≡ deltas_asked fitter.now.instance fitter.now.tables fitter.now.levels number)) }
 {
     if !counted {
         return Ok(None);
     }
-    fitter.deltas(number, DELTA_LIMIT)
+    Ok(told(fitter.deltas(number, DELTA_LIMIT)?))
 }
 
 /// The cost of a glyph's programs: 0 where work is not bounded.
@@ -135,8 +145,8 @@ pub(crate) fn cost_of(work: Option<u64>, cost: Option<u64>) -> Option<u64>
 
 /// What a glyph counts, where its points, its deltas and its cost are known.
 pub(crate) fn counts_of(
-    points: Option<u64>,
-    deltas: Option<u64>,
+    points: Option<u32>,
+    deltas: Option<u32>,
     cost: Option<u64>,
 ) -> Option<KeptCounts>
     ensures points { IfSome result (λ n. points ≡ Some n.points) }

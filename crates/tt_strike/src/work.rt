@@ -97,7 +97,10 @@ impl CountsLeft {
         ensures { IfOk result (λ left. left ≡ counts_left self (points_asked fitter.now.tables fitter.now.levels glyph) (deltas_asked fitter.now.instance fitter.now.tables fitter.now.levels glyph)) }
     {
         match cache.counts(glyph) {
-            Some(counts) => Ok(self.without(counts.points, counts.deltas)),
+            Some(counts) => {
+                let deltas = u64::from(counts.deltas);
+                Ok(self.without(u64::from(counts.points), deltas))
+            }
             None => self.without_counted(fitter, glyph),
         }
     }

@@ -15,9 +15,9 @@ const PLACE: usize = 224;
 #[derive(Clone, Copy)]
 pub struct KeptCounts {
     /// Its points, those of components too.
-    pub points: u64,
+    pub points: u32,
     /// The work of its deltas at the font's instance, with those of components; 0 by the default.
-    pub deltas: u64,
+    pub deltas: u32,
     /// The part of a job's work that its programs take.
     pub cost: u64,
 }
