@@ -43,10 +43,11 @@ pub fn fit_glyphs(
     ensures after { IfOk result (λ v. fitter.new ≡ fitter_after fitter.old numbers.now) }
     ensures fault { IfTold font_fault result (λ f. outlines_by (fitter_for fitter.old numbers.now) numbers.now ≡ Err f) }
 {
+    // There is room for all, so that no push asks for memory.
     let mut made = Vec::with_capacity(alloc, numbers.len())?;
     for number in numbers {
         let glyph = FittedGlyph::of(alloc, fitter, *number, cache)?;
-        made.push(glyph)?;
+        made.push_reserved(glyph);
     }
     Ok(made)
 }
@@ -113,6 +114,7 @@ pub fn drawn_glyphs(
 {
     let mut left = limits;
     let mut room = BITMAPS_BYTES;
+    // There is room for all, so that no push asks for memory.
     let mut made = Vec::with_capacity(alloc, fitted.len())?;
     for one in fitted {
         if !one.has_chords_within(left.chords) {
@@ -130,7 +132,7 @@ pub fn drawn_glyphs(
         left.chords -= glyph.chords();
         left.crossings -= crossings;
         room = room.saturating_sub(glyph.bytes());
-        made.push(glyph)?;
+        made.push_reserved(glyph);
     }
     Ok(Some(made))
 }

@@ -93,8 +93,8 @@ impl MadeOutline {
     }
 }
 
-/// A count in the cache's type; None where there is none, or the count exceeds 32 bits.
-fn told(count: Option<u64>) -> Option<u32>
+/// A count in 32 bits, as the cache has it; None where there is no count, or a greater one.
+fn narrowed(count: Option<u64>) -> Option<u32>
     ensures { IfSome result (λ n. count ≡ Some n) }
 {
     match u32::try_from(count?) {
@@ -115,7 +115,7 @@ pub(crate) fn points_of(
     if !cached {
         return Ok(None);
     }
-    Ok(told(fitter.points(number, POINT_WORK_LIMIT)?))
+    Ok(narrowed(fitter.points(number, POINT_WORK_LIMIT)?))
 }
 
 /// The deltas of a glyph; None where its points are not counted, or the deltas are too many for a line. Error: Memory.
@@ -130,7 +130,7 @@ pub(crate) fn deltas_of(
     if !counted {
         return Ok(None);
     }
-    Ok(told(fitter.deltas(number, DELTA_LIMIT)?))
+    Ok(narrowed(fitter.deltas(number, DELTA_LIMIT)?))
 }
 
 /// The cost of a glyph's programs: 0 where work is not bounded.

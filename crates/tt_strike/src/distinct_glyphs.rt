@@ -32,11 +32,12 @@ pub fn distinct(
     ensures known { IfOk result (λ d. All (λ n. n < glyphs) d.numbers.items) }
 {
     let mut places = table.take(usize::from(glyphs))?;
+    // There is room for all, so that no push asks for memory.
     let mut numbers = Vec::with_capacity(alloc, line.len())?;
     for placed in line {
         let (number, _) = *placed;
         if places[usize::from(number)] == 0 {
-            numbers.push(number)?;
+            numbers.push_reserved(number);
             places[usize::from(number)] = numbers.len() as u16;
         }
     }

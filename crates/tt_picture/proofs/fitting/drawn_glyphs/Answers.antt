@@ -1,4 +1,4 @@
-use Rattle.std.proofs.Common.{◌≡◌, ◌∙◌, ◌∷◌, [], ◌++◌, ◌+◌, ◌<◌, ◌≤◌, inl, inr, ℕ, List, Some, length, refl, sym, ap, subst, append_assoc, append-nil, arith}
+use Rattle.std.proofs.Common.{◌≡◌, ◌∙◌, ◌∷◌, [], ◌++◌, ◌+◌, ◌<◌, ◌≤◌, inl, inr, ℕ, List, Some, length, refl, sym, ap, subst, append_assoc, append-nil, length-append, arith}
 use Rattle.std.specs.Vec.Iter.{into_iter_items}
 use Rattle.std.proofs.lemmas.List.{map-append}
 use Rattle.std.proofs.lemmas.List.Elements.{All-pop, All-push}
@@ -40,7 +40,7 @@ loop-one-preserved c =
     let g = c.in-Some.one in
     let h = c.in_ok-glyph.glyph in
     let one = c.in_ok-glyph.ensures in
-    let pushed = c.in_ok-push.ensures.items in
+    let pushed = c.push_reserved.ensures.items in
     let steps : into_iter_items at.one-iterator ≡ g ∷ into_iter_items c.next.new.self = c.in-Some.ensures.steps.0 in
     let same : c.chords.result ≡ h.chords = c.chords.ensures in
     let has = c.has_chords_within.ensures in
@@ -69,7 +69,19 @@ loop-one-preserved c =
       cached = served c.args.cache.now at.cache c.into_glyph.new.cache at.yielded (g ∷ []) [] (at.yielded ++ g ∷ []) g refl refl
           so_far.cached one.cached;
       limit = one.limit ∙ so_far.limit;
+      made = omega (arith, c.push_reserved.ensures.len, so_far.made, length-append at.yielded (g ∷ []));
+      spare = rw c.push_reserved.ensures.capacity so_far.spare;
     }
+
+-- a glyph is left, and the room is for all
+pub push_reserved-requires : goal.push_reserved-requires
+push_reserved-requires c =
+    let at = c.loop-one in
+    let g = c.in-Some.one in
+    let rest = into_iter_items c.next.new.self in
+    let steps : into_iter_items at.one-iterator ≡ g ∷ rest = c.in-Some.ensures.steps.0 in
+    let all : length (at.yielded ++ g ∷ rest) ≡ length c.args.fitted.items = ap length (rw (← steps) at.invariant.all) in
+    omega (arith, all, length-append at.yielded (g ∷ rest), at.invariant.made, at.invariant.spare)
 
 -- the glyphs that are left are none
 all_drawn : {X : Type 0} (drawn left all : List X) → drawn ++ left ≡ all → length left ≡ 0 → drawn ≡ all

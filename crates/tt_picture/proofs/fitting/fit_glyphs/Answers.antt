@@ -25,6 +25,8 @@ loop-number-init c =
       outlines = ([], none_before (each (λ g. fitted_outline (maker g) g) ns));
       after = refl;
       tables = refl;
+      count = c.in_ok-made.ensures.len;
+      spare = omega (arith, c.in_ok-made.ensures.capacity, c.len.ensures);
     }
 
 -- the fitter of the next glyph is the present one
@@ -56,7 +58,7 @@ loop-number-preserved c =
     let made = c.loop-number.made.items in
     let h = c.in_ok-glyph.glyph in
     let one = c.in_ok-glyph.ensures in
-    let items = c.in_ok-push.ensures.items in
+    let items = c.push_reserved.ensures.items in
     let number : h.number ≡ n = one.number in
     let own : maker h.number ≡ c.loop-number.fitter = ap maker number ∙ from in
     let fitted : IsFitted (maker h.number) h = rw own one.fitted in
@@ -72,7 +74,13 @@ loop-number-preserved c =
       );
       after = one.after ∙ rw (take_more ns i 0 below, so_far.after) (sym (pushed s (take i ns) n));
       tables = rw one.after (same_tables c.loop-number.fitter n) ∙ so_far.tables;
+      count = omega (arith, c.push_reserved.ensures.len, so_far.count);
+      spare = rw c.push_reserved.ensures.capacity so_far.spare;
     }
+
+pub push_reserved-requires : goal.push_reserved-requires
+push_reserved-requires c =
+    omega (arith, c.loop-number.invariant.count, c.loop-number.invariant.spare, c.loop-number-test.true)
 
 pub returns-in_err-glyph-clause-fault : goal.returns-in_err-glyph-clause-fault
 returns-in_err-glyph-clause-fault c =

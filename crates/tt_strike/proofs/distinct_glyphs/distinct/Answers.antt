@@ -6,7 +6,7 @@ use Rattle.tt_picture.proofs.FirstMet.{met_again, met_first}
 use Rattle.tt_picture.proofs.Seats.{places_more}
 use Rattle.tt_strike.proofs.Seated.{is_seated, none_of, not_seated}
 use Rattle.tt_strike.proofs.distinct_glyphs.distinct.Goals as goal
-use Rattle.tt_strike.proofs.distinct_glyphs.distinct.Goals.{then-index-eq0+in_ok-push, else-index-eq0}
+use Rattle.tt_strike.proofs.distinct_glyphs.distinct.Goals.{then-index-eq0, else-index-eq0}
 
 pub loop-placed-preserved : goal.loop-placed-preserved
 loop-placed-preserved c =
@@ -22,16 +22,17 @@ loop-placed-preserved c =
     let seat : c.index.result.now ≡ slice_index table g = rw c.from-in-loop-placed.ensures at c.index.ensures
     ∙ get_or_default table g c.index.result.now 0 known in
     elim c.if-index-eq0.branch [
-      | then-index-eq0+in_ok-push w ↦
+      | then-index-eq0 w ↦
           let none : slice_index table g ≡ 0 = omega (arith, seat, w.if-index-eq0.true) in
           let absent : is_among g numbers ≡ false = not_seated table numbers g so_far.places none in
           let more = places_more table numbers g known (none_of numbers g absent) so_far.places in
-          let count : w.len.result ≡ length numbers + 1 = w.len.ensures ∙ w.push.new.self.ok.0
-          ∙ ap length w.in_ok-push.ensures.items ∙ length-append numbers (g ∷ []) in
-          rw (w.places-is, w.from-then-index-eq0.ensures, w.numbers-is, w.in_ok-push.ensures.items, count) (record {
+          let count : w.len.result ≡ length numbers + 1 = w.len.ensures ∙ w.push_reserved.new.self.ok.0
+          ∙ ap length w.push_reserved.ensures.items ∙ length-append numbers (g ∷ []) in
+          rw (w.places-is, w.from-then-index-eq0.ensures, w.numbers-is, w.push_reserved.ensures.items, count) (record {
             room = length-set table g (length numbers + 1) ∙ so_far.room;
             known = All-push (λ n. n < c.args.glyphs) numbers g so_far.known (c.requires.known i (0, 0) below);
             few = omega (arith, so_far.few, length-append numbers (g ∷ []));
+            spare = rw w.push_reserved.ensures.capacity so_far.spare;
             places = more;
             numbers = met_first numbers all line i below absent so_far.numbers;
           })
@@ -42,6 +43,7 @@ loop-placed-preserved c =
             room = so_far.room;
             known = so_far.known;
             few = omega (arith, so_far.few);
+            spare = so_far.spare;
             places = so_far.places;
             numbers = met_again numbers all line i below there so_far.numbers;
           })

@@ -1,4 +1,4 @@
-use Rattle.std.proofs.Common.{◌≡◌, ◌<◌, ◌≤◌, drop, length, map, All}
+use Rattle.std.proofs.Common.{◌≡◌, ◌<◌, ◌≤◌, drop, length, map, vec_capacity, All}
 use Rattle.tt_picture.specs.Distinct.{distinct, distinct_after}
 use Rattle.tt_picture.specs.Glyphs.{ArePlaces}
 use Rattle.tt_strike.proofs.distinct_glyphs.distinct.Given as goal
@@ -9,6 +9,7 @@ invariant-loop-placed l = record {
   room : length l.places.items ≡ l.glyphs;
   known : All (λ n. n < l.glyphs) l.numbers.items;
   few : length l.numbers.items ≤ l.placed-index;
+  spare : length l.line ≤ vec_capacity l.numbers;
   places : ArePlaces l.places.items l.numbers.items;
   numbers : distinct_after l.numbers.items (map (λ g. g.0) (drop l.placed-index l.line)) ≡ distinct (map (λ g. g.0) l.line);
 }
