@@ -11,7 +11,7 @@ use Rattle.tt_face.specs.Faces.{Face}
 use Rattle.tt_picture.specs.Shapes.{crossings_in}
 use Rattle.tt_strike.specs.Work.{work_left}
 
--- the work of copies, programs and points, by the work that remains, and 4 for each crossing
+-- the work of copies, programs, points and deltas, by the work that remains, and 4 for each crossing
 abbrev pub cost_of : Option ℕ → ℕ → ℕ
 cost_of None crossings = 0
 cost_of (Some left) crossings = (work_limit - left) + 4 * crossings
