@@ -161,13 +161,6 @@ returns-then-crossings-left-clause-cached c =
     (into_iter_items c.next.new.self) c.args.fitted.items c.in-Some.one at.invariant.all c.in-Some.ensures.steps.0
     at.invariant.cached c.in_ok-glyph.ensures.cached
 
-pub returns-in_err-push-clause-cached : goal.returns-in_err-push-clause-cached
-returns-in_err-push-clause-cached c =
-    let at = c.loop-one in
-    served c.args.cache.now at.cache c.into_glyph.new.cache at.yielded (into_iter_items at.one-iterator)
-    (into_iter_items c.next.new.self) c.args.fitted.items c.in-Some.one at.invariant.all c.in-Some.ensures.steps.0
-    at.invariant.cached c.in_ok-glyph.ensures.cached
-
 pub returns-in_err-glyph-clause-cached : goal.returns-in_err-glyph-clause-cached
 returns-in_err-glyph-clause-cached c =
     let at = c.loop-one in

@@ -26,7 +26,7 @@ loop-number-init c =
       after = refl;
       tables = refl;
       count = c.in_ok-made.ensures.len;
-      spare = omega (arith, c.in_ok-made.ensures.capacity, c.len.ensures);
+      spare = c.in_ok-made.ensures.capacity;
     }
 
 -- the fitter of the next glyph is the present one
