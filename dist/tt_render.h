@@ -36,41 +36,58 @@
  * the unit of the character before it, and chooses that unit's glyph where the font says so. Every other selector is
  * passed over, at the start and behind another one.
  *
- * A call reports the first refusal in this order: the way to fit, UTF-8, size, margin, the text's length; the font's
- * size, the place of the face, its tables; the picture's size; loca and glyf, the font's programs, the points (65),
- * the glyphs, the crossings (65). With TT_BEST the picture's size comes after the glyphs. With grow, the size of the
- * enlarged picture follows: a picture that is empty before it is enlarged is refused (62). The room comes last. Of
- * these, tt_layout and tt_pens report nothing of the crossings. Without TT_BEST they report nothing that follows the
- * picture's size but the room, since they look at no glyph.
+ * A font with a table fvar is variable. A job draws an instance of it: a place on each of its axes. The places are
+ * those of the font's default, or with instance those of a named instance; then each value of axis, in order, sets
+ * every axis with its tag. A place past an end of an axis is the end. Advances, heights, kerning, outlines and programs
+ * are those of the instance. With no instance and no value no table of variations is read. Where all places are the
+ * defaults, fvar and avar alone are read, and each picture is that of the font's default. tt_axes and tt_instances tell
+ * what a font has.
  *
- * tt_label reports the alignment (72) after the way to fit, and the box (70) and the width (69) after the margin. Then it
- * reports what tt_draw does with grow, but never an empty picture (62). With a width the picture's size comes after the
- * glyphs, whatever the way to fit, and again after the crossings, of the picture with rows for its ink. With a box it
- * reports the glyphs of one size after the other, from the greatest down, and where rows fit their crossings. Before a
- * size comes the work of the sizes before it (65), and after the last a text that fits at no size (71).
+ * A call reports the first refusal in this order: the way to fit, the number of values of axes (73), UTF-8, size,
+ * margin, the text's length; the font's size, the place of the face, its tables, and of an instance fvar, the number of
+ * the named instance (28), the tags (27), the header of gvar; the picture's size; loca and glyf, the font's programs,
+ * the points and the deltas (65), the glyphs, the crossings (65). With TT_BEST the picture's size comes after the
+ * glyphs. Without it, at an instance of a font without the table HVAR, the advances of all glyphs come just after the
+ * header of gvar: loca and glyf, then each glyph's data. With grow, the size of the enlarged picture follows: a picture
+ * that is empty before it is enlarged is refused (62). The room comes last. Of these, tt_layout and tt_pens report
+ * nothing of the crossings. Without TT_BEST they report nothing that follows the picture's size but the room, since they
+ * look at no glyph but for advances.
  *
- * tt_glyphs reports too small a room for its entries before all else. Then it reports the way to fit, the size, and the
- * count (61); the font's size, the place of the face, its tables; loca and glyf, the font's programs, the points, the
- * crossings (both 65); and last the room for the rows. A refused glyph has its refusal in its entry.
+ * tt_label reports the alignment (72) after the number of values of axes, and the box (70) and the width (69) after the
+ * margin. Then it reports what tt_draw does with grow, but never an empty picture (62). With a width the picture's size
+ * comes after the glyphs, whatever the way to fit, and again after the crossings, of the picture with rows for its ink.
+ * With a box it reports the glyphs of one size after the other, from the greatest down, and where rows fit their
+ * crossings. Before a size comes the work of the sizes before it (65), and after the last a text that fits at no size
+ * (71).
  *
- * tt_strike reports the way to fit, size, margin; the font's size, the place of the face, its tables; and last a line
- * that has no rows (62) or too many (63).
+ * tt_glyphs reports too small a room for its entries before all else. Then it reports the way to fit, the number of
+ * values of axes, the size, and the count (61); the font's size, the place of the face, its tables, the instance; loca
+ * and glyf, the font's programs, the points and the deltas, the crossings (all 65); and last the room for the rows. A
+ * refused glyph has its refusal in its entry.
  *
- * tt_draw_lines reports, once for the call: the way to fit, size, margin; the font's size, the place of the face, its
- * tables; lines_room. Then, line by line: the line's ends (67), the work of the lines before it (65), UTF-8, the text's
- * length, and all that follows above. So where the font is damaged and a line is not UTF-8, it answers TT_FONT, and
- * tt_draw TT_NOT_UTF8. tt_lines_room reports the same, but looks at no room.
+ * tt_strike reports the way to fit, the number of values of axes, size, margin; the font's size, the place of the face,
+ * its tables, the instance; and last a line that has no rows (62) or too many (63). tt_map_job reports the way to fit,
+ * the number of values of axes, UTF-8, the text's length; the font's size, the place of the face, its tables, the
+ * instance; loca, glyf and the glyphs where these tell the advances; and last the room.
  *
- * Cost: tt_faces, tt_open and tt_map, with a face too, and tt_strike read tables alone. So do tt_layout and tt_pens
- * without TT_BEST; with TT_BEST they cost what tt_measure does, less the ink. tt_measure, tt_characters, tt_draw,
+ * tt_draw_lines reports, once for the call: the way to fit, the number of values of axes, size, margin; the font's
+ * size, the place of the face, its tables, the instance; lines_room. Then, line by line: the line's ends (67), the work
+ * of the lines before it (65), UTF-8, the text's length, and all that follows above. So where the font is damaged and a
+ * line is not UTF-8, it answers TT_FONT, and tt_draw TT_NOT_UTF8. tt_lines_room reports the same, but looks at no room.
+ *
+ * Cost: tt_faces, tt_open, tt_map, with a face too, tt_map_job, tt_axes, tt_instances and tt_strike read tables alone.
+ * So do tt_layout and tt_pens without TT_BEST; with TT_BEST they cost what tt_measure does, less the ink. At an
+ * instance of a font without the table HVAR these read the glyphs' data for the advances, which no count bounds. A
+ * glyph at an instance takes some 100 instructions for each delta of its points. tt_measure, tt_characters, tt_draw,
  * tt_draw_band and tt_label each run the font's first two programs and fit all glyphs of the text: with hinting mostly
  * some million instructions. This is so even where the room is too small. With a box tt_label does so for each size
- * that it tries: for a text that is far smaller than its box some hundred times. tt_glyphs runs the two programs once and
- * fits each glyph of its list once, also where the room for the rows is too small: a list costs what a text of its glyphs
- * does. tt_draw_lines runs the two programs once, and fits no glyph that is cached: a label of 16 letters then takes
- * some 30,000 instructions. tt_lines_room costs the same, less the rows. With keep 0 each line fits its glyphs anew, for
- * up to a million instructions. With kern a call reads at most 10,000 numbers of GPOS and kern when it opens the font.
- * For each pair of neighbouring glyphs it reads at most 5,120 numbers, up to three times; real fonts need some 50.
+ * that it tries: for a text that is far smaller than its box some hundred times. tt_glyphs runs the two programs once
+ * and fits each glyph of its list once, also where the room for the rows is too small: a list costs what a text of its
+ * glyphs does. tt_draw_lines runs the two programs once, and fits no glyph that is cached: a label of 16 letters then
+ * takes some 30,000 instructions. tt_lines_room costs the same, less the rows. With keep 0 each line fits its glyphs
+ * anew, for up to a million instructions. With kern a call reads at most 10,000 numbers of GPOS and kern when it opens
+ * the font. For each pair of neighbouring glyphs it reads at most 5,120 numbers, up to three times; real fonts need some
+ * 50.
  */
 #ifndef TT_RENDER_H
 #define TT_RENDER_H
@@ -124,6 +141,15 @@ enum {
     TT_BEST = 3      /* as fallback, with the whole instruction set, bounded work and filled dropouts */
 };
 
+/* The tag of an axis, as TT_TAG('w', 'g', 'h', 't'); blanks fill up a tag of fewer than four characters. */
+#define TT_TAG(a, b, c, d) ((uint32_t)(a) << 24 | (uint32_t)(b) << 16 | (uint32_t)(c) << 8 | (uint32_t)(d))
+
+/* A value for each axis with a tag. */
+struct tt_axis {
+    uint32_t tag;  /* TT_TAG */
+    int32_t value; /* 65,536 times the value: 700 is 45,875,200 */
+};
+
 /*
  * A request to draw a text. Where kern and rounded are 0, no pair of glyphs is kerned and heights are exact.
  *
@@ -140,8 +166,10 @@ enum {
  *
  * tt_draw, tt_draw_band, tt_draw_lines, tt_lines_room, tt_measure, tt_characters, tt_layout and tt_pens look at both:
  * widths, pens and advances follow kern; heights, base lines, rise, depth and step follow rounded. tt_strike has no
- * text, and looks at rounded. tt_glyphs looks at neither. tt_open, tt_map and the calls with a face tell the font's
- * own figures.
+ * text, and looks at rounded. tt_glyphs looks at neither. tt_open, tt_map and the calls with a face tell the font's own
+ * figures, those of its default.
+ *
+ * All calls with a job look at instance, axes and axis. Where both numbers are 0, the font's default is drawn.
  */
 struct tt_job {
     uint32_t size;    /* pixels per em, 1 to 300 */
@@ -152,6 +180,9 @@ struct tt_job {
     uint32_t kern;    /* not 0: pairs of neighbouring glyphs are kerned */
     uint32_t rounded; /* not 0: rise and depth are each rounded to the nearest row, so that box drawing joins */
     uint32_t blank;   /* not 0: a line of tt_draw_lines without a byte is blank, and never refused */
+    uint32_t instance;       /* k + 1: the font's named instance k, as tt_instances tells it. 0: its default */
+    uint32_t axes;           /* how many values of axis count, 0 to 16; the others are not looked at */
+    struct tt_axis axis[16]; /* values of axes, in order, which come after the places of the named instance */
 };
 
 /* Where the shorter lines of a label stand, for a label job's align. */
@@ -187,6 +218,25 @@ struct tt_label_job {
     uint32_t width;      /* 0, or the columns of the picture: more than both margins, at most 16,384 */
     uint32_t box_width;  /* 0, or the columns of a box: more than both margins, at most 16,384; then width is 0 */
     uint32_t box_height; /* 0, or the rows of a box: more than both margins, at most 4,096 */
+    uint32_t instance;       /* as in tt_job */
+    uint32_t axes;           /* as in tt_job */
+    struct tt_axis axis[16]; /* as in tt_job */
+};
+
+/* An axis of a variable font. Its values are told as 65,536 times the value, as a job has them. */
+struct tt_axis_range {
+    uint32_t tag;          /* TT_TAG; a font may have several axes with one tag */
+    int32_t least;         /* at most default_value */
+    int32_t default_value; /* the place where nothing is asked for */
+    int32_t greatest;      /* at least default_value */
+    uint8_t name[68];      /* at most 64 characters of ASCII, '?' for any other character; and zeros at the end */
+};
+
+/* A named instance of a variable font. */
+struct tt_instance {
+    uint32_t instance; /* what a job has for it: k + 1 for instance k */
+    int32_t place[64]; /* 65,536 times its value on each axis, in the order of tt_axes; 0 after the last axis */
+    uint8_t name[68];  /* as the name of an axis */
 };
 
 /* A picture without its pixels. All is 0 for a blank line. */
@@ -321,6 +371,21 @@ int tt_supported(void);
 uint32_t tt_faces(const uint8_t *font, size_t font_bytes, struct tt_answer *answer);
 
 /*
+ * Tells the axes of a variable font, in the order of its table fvar: at most 64. face is n + 1 for face n, as in a job.
+ * A font whose table fvar is missing or has a defect tells no axis and no instance; a job with an instance reports the
+ * defect. It takes some memory. Of the refusals of a job none occurs. count: axes.
+ */
+uint32_t tt_axes(const uint8_t *font, size_t font_bytes, uint32_t face, struct tt_axis_range *axes, size_t room,
+                 struct tt_answer *answer);
+
+/*
+ * Tells the named instances of a variable font, as Bold, in the order of its table fvar: the first 256. All else is as
+ * in tt_axes. count: instances.
+ */
+uint32_t tt_instances(const uint8_t *font, size_t font_bytes, uint32_t face, struct tt_instance *instances, size_t room,
+                      struct tt_answer *answer);
+
+/*
  * Tests the tables that every text needs, and fills told with the font's figures. It takes no memory. tt_open_face does
  * so for a face: n + 1 for face n, as in a job.
  */
@@ -332,11 +397,16 @@ uint32_t tt_open_face(const uint8_t *font, size_t font_bytes, uint32_t face, str
  * The glyph and the advance of each unit of a text, in order. The room holds as many entries as the text has units,
  * which are at most as many as its bytes. It takes no memory. Of the refusals of a job only 61, a text that is too long,
  * occurs. tt_map_face does so for a face: n + 1 for face n, as in a job. count: units.
+ *
+ * tt_map_job does so by a job, at its instance: of the job face, instance, axes and axis are looked at, and fit for the
+ * way in which the font is read. The units and their glyphs are those of tt_pens for this job. It takes some memory.
  */
 uint32_t tt_map(const uint8_t *font, size_t font_bytes, const uint8_t *text, size_t text_bytes,
                 struct tt_glyph *glyphs, size_t room, struct tt_answer *answer);
 uint32_t tt_map_face(const uint8_t *font, size_t font_bytes, uint32_t face, const uint8_t *text, size_t text_bytes,
                      struct tt_glyph *glyphs, size_t room, struct tt_answer *answer);
+uint32_t tt_map_job(const uint8_t *font, size_t font_bytes, const uint8_t *text, size_t text_bytes,
+                    const struct tt_job *job, struct tt_glyph *glyphs, size_t room, struct tt_answer *answer);
 
 /*
  * The size of a text's picture, its base line and the box of its ink.
@@ -364,9 +434,9 @@ uint32_t tt_strike(const uint8_t *font, size_t font_bytes, const struct tt_job *
 /*
  * Lays out a text, and draws no ink: the size of the picture that does not grow, its base line, and the rows to a next
  * line. Where tt_measure is done without grow, width, height and baseline are equal to those of tt_measure. A text of n
- * lines takes (n - 1) * step + rise + depth rows. grow is not looked at. Without TT_BEST no memory is taken and no glyph
- * is looked at, so a font with damaged glyphs is laid out too. With TT_BEST the advances are those of the fitted glyphs,
- * which are made.
+ * lines takes (n - 1) * step + rise + depth rows. grow is not looked at. Without TT_BEST and without an instance no
+ * memory is taken and no glyph is looked at, so a font with damaged glyphs is laid out too. With TT_BEST the advances
+ * are those of the fitted glyphs, which are made.
  */
 uint32_t tt_layout(const uint8_t *font, size_t font_bytes, const uint8_t *text, size_t text_bytes,
                    const struct tt_job *job, struct tt_layout *told, struct tt_answer *answer);
@@ -451,8 +521,8 @@ uint32_t tt_lines_room(const uint8_t *font, size_t font_bytes, const uint8_t *te
 
 /*
  * Makes the bitmaps of a list of glyphs by their numbers, at most 4,096: those that a shaper gives, in the order of the
- * list, and with what repeats in it. Each glyph is made once, with one run of the font's programs. Of the job size, fit
- * and face count; margin, grow, kern and rounded are not looked at.
+ * list, and with what repeats in it. Each glyph is made once, with one run of the font's programs. Of the job size,
+ * fit, face and the instance count; margin, grow, kern and rounded are not looked at.
  *
  * told gets count entries: entry i is that of glyphs[i]. An entry whose number stood before is equal to the first one.
  * With TT_BEST advance is advance_64ths rounded to the nearest pixel, a half up, or 0 where that is negative. Else
@@ -467,8 +537,8 @@ uint32_t tt_lines_room(const uint8_t *font, size_t font_bytes, const uint8_t *te
  * 68 where the font has no such glyph, TT_JOB with 63 where its ink has more than 16,384 columns or 4,096 rows. The
  * other fields of the entry are 0, except glyph and at.
  *
- * With TT_BEST the work of the whole list is bounded as that of a line: the points and the lines of all its glyphs are
- * counted once (65). A glyph for whose programs too little work is left is unfitted, with the number 30.
+ * With TT_BEST the work of the whole list is bounded as that of a line: the points, the deltas and the lines of all its
+ * glyphs are counted once (65). A glyph for whose programs too little work is left is unfitted, with the number 30.
  *
  * Where told_room is less than count, nothing else is looked at: TT_ROOM, bytes 0, count. Where room is too small for
  * the rows, TT_ROOM, the bytes of all rows, count. bytes and count: of all rows, and of the list. NULL goes with room 0
@@ -489,6 +559,9 @@ uint32_t tt_message(const struct tt_answer *told, uint8_t *text, size_t room, st
 /*
  * All refusals: X(number, name). From 60 on they refuse the job; the man page of the program explains each.
  *
+ * 73 AxesMany: axes is above 16. 26 VariationShape, 27 NoAxis, 28 NoInstance and 29 GlyphVariation come at an instance
+ * alone.
+ *
  * 69 to 72 come with tt_label alone. 69 WidthRange: the width is above 16,384, or at most both margins. 70 BoxRange: the
  * box has more than 16,384 columns or 4,096 rows, or at most both margins of either, or there is a width too. 71 BoxSmall:
  * the text fits into the box at no size. 72 UnknownAlign: align has another number.
@@ -496,18 +569,20 @@ uint32_t tt_message(const struct tt_answer *told, uint8_t *text, size_t room, st
  * 68 GlyphNumber comes in an entry of tt_glyphs alone. For a list of glyphs 65 counts as for a line, but for each glyph
  * once, with the rows of a picture that holds all of it.
  *
- * 65 WorkLarge comes with TT_BEST alone, for one of two counts of a line, or for the lines before it.
+ * 65 WorkLarge comes with TT_BEST alone, for one of three counts of a line, or for the lines before it.
  *   - Points: its glyphs, each once, have more than 1,000,000. Each glyph and each component adds four, each contour
  *     one.
+ *   - Deltas, at an instance: its glyphs, each once, and the control values have more than 8,000,000: for each tuple of
+ *     a glyph its points, contours, components and axes, and four.
  *   - Crossings: its glyphs, at all their places, have more than 10,000,000, or more than the line's work allows. An
- *     edge counts five for each row that it crosses, inside the picture or outside, but at least seven; and one for each
- *     2,048 rows of its glyph. Each row of the glyph counts one. Where dropouts are filled, each row or column that an
- *     edge crosses counts three more, and one for each 2,048 rows of the glyph. Each 64 bytes of a bitmap of the glyph
- *     then count one. The work allows 500,000, and one for each 4 units that points and programs leave of 50,000,000. A
- *     point takes 40 units.
+ *     edge counts five for each row that it crosses, inside the picture or outside, but at least seven; and one for
+ *     each 2,048 rows of its glyph. Each row of the glyph counts one. Where dropouts are filled, each row or column
+ *     that an edge crosses counts three more, and one for each 2,048 rows of the glyph. Each 64 bytes of a bitmap of
+ *     the glyph then count one. The work allows 500,000, and one for each 4 units that points, deltas and programs
+ *     leave of 50,000,000. A point takes 40 units, a delta 4.
  *   - Lines of tt_draw_lines: those before this one took more than 10,000,000 units, and 4,000,000 for each of them. A
- *     line takes the units of its points and programs, and 4 units for each crossing. The sizes that tt_label tries for a
- *     box are counted as such lines are.
+ *     line takes the units of its points, deltas and programs, and 4 units for each crossing. The sizes that tt_label
+ *     tries for a box are counted as such lines are.
  */
 #define TT_REFUSALS(X) \
     X(1, BadVersion) \
@@ -572,7 +647,8 @@ uint32_t tt_message(const struct tt_answer *told, uint8_t *text, size_t room, st
     X(69, WidthRange) \
     X(70, BoxRange) \
     X(71, BoxSmall) \
-    X(72, UnknownAlign)
+    X(72, UnknownAlign) \
+    X(73, AxesMany)
 
 /*
  * The memory of the library. heap.c has these three functions over malloc, realloc and free. A host with its own heap
