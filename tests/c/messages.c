@@ -60,7 +60,7 @@ static void try_strange(const struct tt_answer *answer) {
 
 static void try_answers(void) {
   static const uint32_t statuses[] = {0, 1, 2, 4, 5, 6, 7, 8, UINT32_MAX};
-  static const uint32_t numbers[] = {0, 51, 52, 58, 59, 73, 255, 256 + 2, UINT32_MAX};
+  static const uint32_t numbers[] = {0, 51, 52, 58, 59, 74, 255, 256 + 2, UINT32_MAX};
   for (size_t i = 0; i < sizeof statuses / sizeof *statuses; i++) {
     for (size_t j = 0; j < sizeof numbers / sizeof *numbers; j++) {
       struct tt_answer answer = {statuses[i], numbers[j], {'g', 'l', 'y', 'f'}, UINT32_MAX, UINT64_MAX, UINT64_MAX};
